@@ -1,0 +1,3 @@
+pub mod Hits
+pub mod Index
+pub mod Pieces
