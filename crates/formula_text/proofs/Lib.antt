@@ -1,0 +1,10 @@
+pub mod MarkLemmas
+pub mod RunLemmas
+pub mod ReaderLemmas
+pub mod SpanLemmas
+pub mod Completeness
+pub mod WritingLaws
+pub mod MinimalLaws
+pub mod PartsLaws
+pub mod AsciiLaws
+pub mod RoundTrip

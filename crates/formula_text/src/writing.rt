@@ -1,0 +1,162 @@
+//! A formula as text.
+
+ghost use Rattle.std.specs.Prelude.{◌≡◌, ◌++◌, IfOk, OnOk};
+ghost use Rattle.std.specs.Fmt.{decimal};
+ghost use Rattle.formula_text.specs.Trees.{tree_of};
+ghost use Rattle.formula_text.specs.Writing.{line_of, line_of_op, left_of, right_of, around, text_of, wants_brackets, before, sign, behind};
+
+use crate::node::{Node, Op};
+use graph_model::Text;
+use itoa::Buffer;
+use std::alloc::{AllocError, Global};
+
+/// A line of the grammar.
+#[derive(Clone, Copy)]
+pub enum Line {
+    Expression,
+    Term,
+    Factor,
+}
+
+fn line_of_op(op: Op) -> Line
+    ensures { result ≡ line_of_op op }
+{
+    match op {
+        Op::Plus => Line::Expression,
+        Op::Less => Line::Expression,
+        Op::Times => Line::Term,
+        Op::Over => Line::Term,
+        Op::Rest => Line::Term,
+        Op::Min => Line::Factor,
+        Op::Max => Line::Factor,
+    }
+}
+
+fn left_of(op: Op) -> Line
+    ensures { result ≡ left_of op }
+{
+    match op {
+        Op::Times => Line::Term,
+        Op::Over => Line::Term,
+        Op::Rest => Line::Term,
+        Op::Plus => Line::Expression,
+        Op::Less => Line::Expression,
+        Op::Min => Line::Expression,
+        Op::Max => Line::Expression,
+    }
+}
+
+fn right_of(op: Op) -> Line
+    ensures { result ≡ right_of op }
+{
+    match op {
+        Op::Plus => Line::Term,
+        Op::Less => Line::Term,
+        Op::Times => Line::Factor,
+        Op::Over => Line::Factor,
+        Op::Rest => Line::Factor,
+        Op::Min => Line::Expression,
+        Op::Max => Line::Expression,
+    }
+}
+
+// Whether a text of the line wants brackets where another is wanted.
+fn wants_brackets(wanted: Line, line: Line) -> bool
+    ensures { result ≡ wants_brackets wanted line }
+{
+    match (wanted, line) {
+        (Line::Term, Line::Expression) => true,
+        (Line::Factor, Line::Expression) => true,
+        (Line::Factor, Line::Term) => true,
+        _ => false,
+    }
+}
+
+// What stands before the left operand.
+fn before(wanted: Line, op: Op) -> &'static [u8]
+    ensures { result.now ≡ before wanted op }
+{
+    match op {
+        Op::Min => b"min(",
+        Op::Max => b"max(",
+        _ => {
+            if wants_brackets(wanted, line_of_op(op)) {
+                b"("
+            } else {
+                b""
+            }
+        }
+    }
+}
+
+// What stands between the operands.
+fn sign(op: Op) -> u8
+    ensures { result ≡ sign op }
+{
+    match op {
+        Op::Plus => b'+',
+        Op::Less => b'-',
+        Op::Times => b'*',
+        Op::Over => b'/',
+        Op::Rest => b'%',
+        Op::Min => b',',
+        Op::Max => b',',
+    }
+}
+
+// What stands behind the right operand.
+fn behind(wanted: Line, op: Op) -> &'static [u8]
+    ensures { result.now ≡ behind wanted op }
+{
+    match op {
+        Op::Min => b")",
+        Op::Max => b")",
+        _ => {
+            if wants_brackets(wanted, line_of_op(op)) {
+                b")"
+            } else {
+                b""
+            }
+        }
+    }
+}
+
+fn push_number(out: &mut Vec<u8>, n: u64) -> Result<(), AllocError>
+    ensures { OnOk result (out.new.items ≡ out.old.items ++ decimal n) }
+{
+    let mut digits = Buffer::new();
+    out.extend_from_slice(digits.format(n).as_bytes())
+}
+
+// A tree where a line of the grammar is wanted.
+fn push(out: &mut Vec<u8>, node: &Node, wanted: Line) -> Result<(), AllocError>
+    ensures { OnOk result (out.new.items ≡ out.old.items ++ around wanted (line_of (tree_of node.now)) (text_of (tree_of node.now))) }
+{
+    match node {
+        Node::Number(n) => push_number(out, n.unsigned_abs()),
+        Node::Input(i) => {
+            out.push(b'$')?;
+            push_number(out, u64::from(*i))
+        }
+        Node::Minus(a) => {
+            out.push(b'-')?;
+            push(out, a, Line::Factor)
+        }
+        Node::Two(op, a, b) => {
+            out.extend_from_slice(before(wanted, *op))?;
+            push(out, a, left_of(*op))?;
+            out.push(sign(*op))?;
+            push(out, b, right_of(*op))?;
+            out.extend_from_slice(behind(wanted, *op))
+        }
+    }
+}
+
+/// The text of a tree.
+pub fn text(alloc: Global, node: &Node) -> Result<Text, AllocError>
+    ensures { IfOk result (λ text. text ≡ text_of (tree_of node.now)) }
+{
+    let mut out = Vec::new(alloc);
+    push(&mut out, node, Line::Expression)?;
+    Ok(Text::from_vec(out))
+}

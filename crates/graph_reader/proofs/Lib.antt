@@ -1,0 +1,13 @@
+pub mod Again
+pub mod Among
+pub mod Built
+pub mod Counted
+pub mod Depth
+pub mod Fits
+pub mod Floats
+pub mod Members
+pub mod Order
+pub mod Pairs
+pub mod Parts
+pub mod Passed
+pub mod Unique

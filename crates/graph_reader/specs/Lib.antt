@@ -1,0 +1,7 @@
+pub mod Answers
+pub mod Checks
+pub mod Content
+pub mod Faults
+pub mod Format
+pub mod Names
+pub mod Written

@@ -1,0 +1,6 @@
+//! Graphs as files state them.
+#![tactic(auto)]
+
+mod raw;
+
+pub use raw::{RawGraph, RawTask};
