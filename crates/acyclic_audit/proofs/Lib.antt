@@ -1,0 +1,6 @@
+pub mod Laws
+pub mod Lookups
+pub mod Meant
+pub mod Orders
+pub mod Reached
+pub mod Refusing

@@ -1,0 +1,13 @@
+pub mod Counts
+pub mod EdgeLemmas
+pub mod Gaps
+pub mod LateLemmas
+pub mod NameLemmas
+pub mod NextLemmas
+pub mod Once
+pub mod Orders
+pub mod PlaceCounts
+pub mod PlaceLaws
+pub mod Places
+pub mod ReaderLaws
+pub mod WrittenLemmas

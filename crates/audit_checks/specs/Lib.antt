@@ -1,0 +1,10 @@
+pub mod Accepted
+pub mod ByKey
+pub mod Chains
+pub mod Counted
+pub mod Faults
+pub mod Levels
+pub mod Links
+pub mod Rows
+pub mod Tasks
+pub mod Work

@@ -1,0 +1,20 @@
+//! The checks of a graph's names, sizes, inputs and order, over its tasks in ascending order of keys.
+#![tactic(auto)]
+
+mod fault;
+mod inputs;
+mod levels;
+mod links;
+mod names;
+mod rows;
+mod sizes;
+mod tasks;
+
+pub use fault::AuditFault;
+pub use inputs::check_inputs;
+pub use levels::levels_of;
+pub use links::{Links, links_of};
+pub use names::{check_keys, check_names};
+pub use rows::{empty_rows, push_at};
+pub use sizes::{check_edges, check_places};
+pub use tasks::{find, number_of, place, place_count};

@@ -1,0 +1,4 @@
+pub mod ByKeys
+pub mod CycleLaws
+pub mod Searching
+pub mod Walking
