@@ -1,0 +1,61 @@
+-- The status and the message of each ending.
+use Rattle.std.specs.Prelude.{ℕ, List, [], ◌∷◌, ◌++◌, codes}
+use Rattle.graph_reader.specs.declared.fault.TextFault.{TextFault}
+use Rattle.graph_reader.specs.declared.fault.TextFault.TheVariants as text
+use Rattle.audit_checks.specs.declared.fault.AuditFault.{AuditFault}
+use Rattle.audit_checks.specs.declared.fault.AuditFault.TheVariants as audit
+use Rattle.graph_runner.specs.Messages.{shown_fault, audit_text}
+use Rattle.graph_runner.specs.declared.ending.Ending.{Ending}
+use Rattle.graph_runner.specs.declared.ending.Ending.TheVariants.{Done, Usage, ReadFault, WriteFault, Text, Audit, NotYet, OutOfMemory, TooLong}
+
+-- what a fault of the text comes to, and one of the graph: want of memory is the same wherever it is met
+abbrev pub text_ending : TextFault → Ending
+text_ending text.OutOfMemory = OutOfMemory
+text_ending text.NotJson = Text text.NotJson
+text_ending (text.Shape path) = Text (text.Shape path)
+text_ending (text.Range path) = Text (text.Range path)
+text_ending (text.Formula task fault) = Text (text.Formula task fault)
+text_ending text.TooManyTasks = Text text.TooManyTasks
+text_ending text.Version = Text text.Version
+
+abbrev pub audit_ending : AuditFault → Ending
+audit_ending audit.OutOfMemory = OutOfMemory
+audit_ending (audit.DuplicateKey k) = Audit (audit.DuplicateKey k)
+audit_ending (audit.UnknownKey t k) = Audit (audit.UnknownKey t k)
+audit_ending (audit.NoSink k) = Audit (audit.NoSink k)
+audit_ending (audit.TooManyPreds t n) = Audit (audit.TooManyPreds t n)
+audit_ending (audit.TooManySuccs t n) = Audit (audit.TooManySuccs t n)
+audit_ending (audit.Cycle k) = Audit (audit.Cycle k)
+audit_ending (audit.VersionTwice b v) = Audit (audit.VersionTwice b v)
+audit_ending (audit.VersionGap b v) = Audit (audit.VersionGap b v)
+audit_ending (audit.VersionOrder b v) = Audit (audit.VersionOrder b v)
+audit_ending (audit.ReaderNotBefore r w) = Audit (audit.ReaderNotBefore r w)
+audit_ending (audit.InputCount t i) = Audit (audit.InputCount t i)
+
+-- the status that the program ends with
+abbrev pub status_of : Ending → ℕ
+status_of Done = 0
+status_of Usage = 2
+status_of ReadFault = 3
+status_of WriteFault = 4
+status_of (Text fault) = 5
+status_of (Audit fault) = 6
+status_of NotYet = 5
+status_of OutOfMemory = 8
+status_of TooLong = 9
+
+-- a line ends with a newline
+abbrev pub line : List ℕ → List ℕ
+line words = words ++ 10 ∷ []
+
+-- the line that says what was wrong, if anything was; it is empty where memory ran out
+abbrev pub message_of : Ending → List ℕ
+message_of Done = []
+message_of Usage = line (codes "usage: run, replay, paths, drill NUMBER, check or print, with the options of the manual")
+message_of ReadFault = line (codes "input could not be read")
+message_of WriteFault = line (codes "output could not be written")
+message_of (Text fault) = line (shown_fault fault)
+message_of (Audit fault) = line (audit_text fault)
+message_of NotYet = line (codes "not supported yet")
+message_of OutOfMemory = []
+message_of TooLong = line (codes "input is longer than 67108864 bytes")

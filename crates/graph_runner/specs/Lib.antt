@@ -1,0 +1,11 @@
+pub mod Accepting
+pub mod Commands
+pub mod Endings
+pub mod Evaluating
+pub mod Formulas
+pub mod Loading
+pub mod Messages
+pub mod Notes
+pub mod Serving
+pub mod Words
+pub mod Writing

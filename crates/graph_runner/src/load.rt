@@ -1,0 +1,42 @@
+ghost use Rattle.std.specs.Prelude.{◌≡◌, ◌≢◌};
+ghost use Rattle.graph_reader.specs.declared.fault.TextFault.TheVariants as text;
+ghost use Rattle.graph_runner.specs.Loading.{Loads};
+ghost use Rattle.graph_runner.specs.Endings.{text_ending};
+
+use crate::ending::Ending;
+use graph_model::FaultPlan;
+use graph_reader::{TextFault, read_graph};
+use io_edge::{ReadEnd, Source, read_all};
+use raw_graph::RawGraph;
+use std::alloc::Global;
+
+const INPUT_LIMIT: usize = 67_108_864;
+
+// What a fault of the text comes to.
+fn text_ending(fault: TextFault) -> Ending
+    ensures { result ≡ text_ending fault }
+{
+    match fault {
+        TextFault::OutOfMemory => Ending::OutOfMemory,
+        fault => Ending::Text { fault },
+    }
+}
+
+/// The graph and the plan that the source holds.
+pub(crate) fn load<S: Source>(
+    alloc: Global,
+    source: &mut S,
+) -> Result<(RawGraph, FaultPlan), Ending>
+    ensures { Loads (record { left = S.left source.old; left_after = S.left source.new; faults = S.faults source.old; faults_after = S.faults source.new }) result }
+{
+    let bytes = match read_all(alloc, source, INPUT_LIMIT) {
+        Ok(bytes) => bytes,
+        Err(ReadEnd::Fault) => return Err(Ending::ReadFault),
+        Err(ReadEnd::TooLong) => return Err(Ending::TooLong),
+        Err(ReadEnd::OutOfMemory) => return Err(Ending::OutOfMemory),
+    };
+    match read_graph(alloc, bytes.as_slice()) {
+        Ok(file) => Ok(file),
+        Err(fault) => Err(text_ending(fault)),
+    }
+}

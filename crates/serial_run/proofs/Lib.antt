@@ -1,0 +1,5 @@
+pub mod Evaluating
+pub mod Gathering
+pub mod Listing
+pub mod Numbers
+pub mod Serials

@@ -1,0 +1,191 @@
+//! Large inputs, at the limits and one above.
+
+use crate::command::{WHOLE, answer_of, compare};
+use graph_model::Text;
+use std::alloc::{AllocError, Global};
+use std::test::Fail;
+
+// A graph file that grows task by task.
+#[derive(Drop)]
+struct Draft {
+    text: String,
+    tasks: u32,
+}
+
+impl Draft {
+    fn new(alloc: Global, sink: u64) -> Result<Draft, AllocError> {
+        Ok(Draft {
+            text: format!(in alloc; "{{\"version\":1,\"sink\":{sink},\"tasks\":[")?,
+            tasks: 0,
+        })
+    }
+
+    fn add(
+        &mut self,
+        alloc: Global,
+        key: u64,
+        formula: &str,
+        inputs: &[u64],
+    ) -> Result<(), AllocError> {
+        if self.tasks > 0 {
+            self.text.push(',')?;
+        }
+        self.tasks = self.tasks.wrapping_add(1);
+        self.text.push_str(format!(in alloc;
+            "{{\"key\":{key},\"formula\":\"{formula}\",\"inputs\":["
+        )?.as_str())?;
+        for (place, input) in inputs.iter().enumerate() {
+            if place > 0 {
+                self.text.push(',')?;
+            }
+            self.text.push_str(input.to_string(alloc)?.as_str())?;
+        }
+        self.text.push_str("]}")
+    }
+
+    fn finish(self) -> Result<String, AllocError> {
+        let Draft { mut text, tasks: _ } = self;
+        text.push_str("]}")?;
+        Ok(text)
+    }
+}
+
+// Adds up so many inputs in order.
+fn sum_formula(alloc: Global, count: u32) -> Result<String, AllocError> {
+    let mut text = String::from_str(alloc, "$0")?;
+    for i in 1..count {
+        text.push_str(format!(in alloc; "+${i}")?.as_str())?;
+    }
+    Ok(text)
+}
+
+// A first task, and a second one that has it so many times as an input.
+fn many_inputs(alloc: Global, count: usize) -> Result<String, AllocError> {
+    let mut draft = Draft::new(alloc, 2)?;
+    draft.add(alloc, 1, "1", &[])?;
+    draft.add(alloc, 2, "$0+$39", vec![in alloc; 1u64; count]?.as_slice())?;
+    draft.finish()
+}
+
+// One task that so many others read; it is the sink.
+fn many_readers(alloc: Global, count: u64) -> Result<String, AllocError> {
+    let mut draft = Draft::new(alloc, 1)?;
+    draft.add(alloc, 1, "3", &[])?;
+    for i in 0..count {
+        draft.add(alloc, i.wrapping_add(2), "$0", &[1])?;
+    }
+    draft.finish()
+}
+
+// A task that 640 others read, whose values are summed in two steps.
+fn tree_of_sums(alloc: Global) -> Result<String, AllocError> {
+    let mut draft = Draft::new(alloc, 658)?;
+    draft.add(alloc, 1, "1", &[])?;
+    for key in 2..642 {
+        draft.add(alloc, key, "$0+1", &[1])?;
+    }
+    let forty = sum_formula(alloc, 40)?;
+    for i in 1..17u64 {
+        let inputs: Vec<u64> = (40 * i - 38..40 * i + 2).collect(alloc)?;
+        draft.add(alloc, 641 + i, forty.as_str(), inputs.as_slice())?;
+    }
+    let inputs: Vec<u64> = (642..658).collect(alloc)?;
+    draft.add(
+        alloc,
+        658,
+        sum_formula(alloc, 16)?.as_str(),
+        inputs.as_slice(),
+    )?;
+    draft.finish()
+}
+
+// As many tasks as a file may have, each but the first with the one before as its input.
+fn chain(alloc: Global) -> Result<String, AllocError> {
+    let mut draft = Draft::new(alloc, 16384)?;
+    draft.add(alloc, 1, "1", &[])?;
+    for key in 2..16385u64 {
+        draft.add(alloc, key, "$0+1", &[key - 1])?;
+    }
+    draft.finish()
+}
+
+// One task with a sum of 2,000 terms, and one with brackets 64 deep.
+fn long_formula(alloc: Global) -> Result<String, AllocError> {
+    let mut formula = String::from_str(alloc, "1")?;
+    for _ in 0..1999 {
+        formula.push_str("+1")?;
+    }
+    let mut draft = Draft::new(alloc, 1)?;
+    draft.add(alloc, 1, formula.as_str(), &[])?;
+    draft.finish()
+}
+
+fn deep_formula(alloc: Global) -> Result<String, AllocError> {
+    let mut formula = String::new(alloc);
+    for _ in 0..64 {
+        formula.push_str("(1-")?;
+    }
+    formula.push('1')?;
+    for _ in 0..64 {
+        formula.push(')')?;
+    }
+    let mut draft = Draft::new(alloc, 1)?;
+    draft.add(alloc, 1, formula.as_str(), &[])?;
+    draft.finish()
+}
+
+// So many tasks without a key.
+fn empty_tasks(alloc: Global, count: u32) -> Result<String, AllocError> {
+    let mut text = String::from_str(alloc, "{\"version\":1,\"sink\":1,\"tasks\":[{}")?;
+    for _ in 1..count {
+        text.push_str(",{}")?;
+    }
+    text.push_str("]}")?;
+    Ok(text)
+}
+
+#[test]
+fn limits_of_graphs(rt: HostRuntime) -> Result<(), Fail> {
+    let alloc = rt.alloc();
+    let cases = [
+        (many_inputs(alloc, 40)?, 0, "", "value 2\n"),
+        (many_inputs(alloc, 41)?, 6, "task 2 has 41 predecessors", ""),
+        (many_readers(alloc, 639)?, 0, "", "value 3\n"),
+        (
+            many_readers(alloc, 640)?,
+            6,
+            "task 1 has 641 successors",
+            "",
+        ),
+        (tree_of_sums(alloc)?, 0, "", "value 1280\n"),
+        (chain(alloc)?, 0, "", "value 16384\n"),
+        (long_formula(alloc)?, 0, "", "value 2000\n"),
+        (deep_formula(alloc)?, 0, "", "value 1\n"),
+        (
+            empty_tasks(alloc, 16384)?,
+            5,
+            "bad shape at /tasks/0/key",
+            "",
+        ),
+        (empty_tasks(alloc, 16385)?, 5, "more than 16384 tasks", ""),
+    ];
+    for (text, status, message, written) in cases {
+        compare(&rt, alloc, ("run", text.as_str(), status, message, written))?;
+    }
+    Ok(())
+}
+
+#[test]
+fn longest_inputs(rt: HostRuntime) -> Result<(), Fail> {
+    let alloc = rt.alloc();
+    let cases = [
+        (67_108_865, 9, "input is longer than 67108864 bytes"),
+        (67_108_864, 5, "not JSON"),
+    ];
+    for (length, status, message) in cases {
+        let spaces = Text::from_vec(vec![in alloc; b' '; length]?);
+        let end = answer_of(&rt, alloc, "run", spaces, WHOLE, WHOLE)?;
+        assert!(rt; end.is(status, message, ""), "{length}");
+    }
+    Ok(())
+}

@@ -1,0 +1,19 @@
+//! What the program answers on texts and words that were worked out by hand. The crate has tests alone.
+#![tactic(auto)]
+
+#[cfg(test)]
+mod broken;
+#[cfg(test)]
+mod command;
+#[cfg(test)]
+mod edges;
+#[cfg(test)]
+mod failing;
+#[cfg(test)]
+mod large;
+#[cfg(test)]
+mod memory;
+#[cfg(test)]
+mod notes;
+#[cfg(test)]
+mod rows;
