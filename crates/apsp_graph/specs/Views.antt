@@ -1,0 +1,14 @@
+-- A graph and a plan as a matrix with its strikes, and the length of the whole.
+use Rattle.std.specs.Prelude.{ℕ, List}
+use Rattle.graph_model.specs.declared.plan.Strike.{Strike}
+use Rattle.path_tasks.specs.Paths.{tiles_of, path_graph}
+use Rattle.apsp_graph.specs.declared.graph.PathGraph.{PathGraph}
+use Rattle.apsp_graph.specs.Matrices.{Matrix}
+
+-- what stands in the graph, and the strikes
+abbrev pub matrix_of : PathGraph → List Strike → Matrix
+matrix_of g strikes = record { n = g.n; side = g.side; weights = g.weights.items; strikes = strikes }
+
+-- how many cells the sink's block has
+abbrev pub sink_cells : PathGraph → ℕ
+sink_cells g = let whole = path_graph (tiles_of g.n g.side) g.side in whole.cells (whole.block whole.sink)
