@@ -1,0 +1,25 @@
+-- One bit set in a word.
+use Rattle.std.proofs.Common.{◌≡◌, ◌≢◌, ℕ, ◌+◌, ◌-◌, ◌/◌, ◌%◌, ◌^◌, ◌<◌, bit_or, sym, ap, ◌∙◌, arith}
+use Rattle.std.specs.Int.{bit_at}
+use Rattle.std.proofs.lemmas.Nat.Bits.{bit_at_and, bit_at_ones, bit_at_or, bit_at-pow_same, bit_at-pow_other, bit_at-lt, same_from_bits}
+use Rattle.std.proofs.Math.Nat.{div-div-eq-div-mul}
+use Rattle.std.proofs.lemmas.Nat.{pow-add, and_mask}
+use Rattle.core_state.specs.Words.{life_of}
+
+pub bit_set_here : (n j : ℕ) → bit_at (bit_or n (2 ^ j)) j ≡ 1
+bit_set_here n j = let a = bit_at_or n (2 ^ j) j in let b = bit_at-pow_same j in let c = bit_at-lt n j in omega (arith, a, b, c)
+
+pub bit_set_else : (n j i : ℕ) → i ≢ j → bit_at (bit_or n (2 ^ j)) i ≡ bit_at n i
+bit_set_else n j i e = let a = bit_at_or n (2 ^ j) i in let b = bit_at-pow_other j i e in omega (arith, a, b)
+
+quotient_bit : (n k i : ℕ) → bit_at (n / 2 ^ k) i ≡ bit_at n (k + i)
+quotient_bit n k i = ap (λ (x : ℕ). x % 2) (div-div-eq-div-mul n (2 ^ k) (2 ^ i) ∙ ap (λ (x : ℕ). n / x) (sym (pow-add 2 k i)))
+
+-- a bit below the life leaves it
+pub life_set : (n j : ℕ) → j < 48 → life_of (bit_or n (2 ^ j)) ≡ life_of n
+life_set n j h = ap (λ (x : ℕ). x + 1) (same_from_bits (bit_or n (2 ^ j) / 2 ^ 48) (n / 2 ^ 48)
+    (λ i. quotient_bit (bit_or n (2 ^ j)) 48 i ∙ bit_set_else n j (48 + i) (λ e. omega arith) ∙ sym (quotient_bit n 48 i)))
+
+-- the low bits of a remainder
+pub low_bits : (m n j : ℕ) → j < m → bit_at (n % 2 ^ m) j ≡ bit_at n j
+low_bits m n j low = sym (ap (λ (x : ℕ). bit_at x j) (and_mask n m)) ∙ bit_at_and n (2 ^ m - 1) j ∙ (let a = bit_at_ones m j low in let b = bit_at-lt n j in omega (arith, a, b))

@@ -1,0 +1,17 @@
+pub mod Words
+pub mod Packed
+pub mod Shapes
+pub mod Graph
+pub mod Counts
+pub mod Change
+pub mod Views
+pub mod Events
+pub mod Calls
+pub mod Laws
+pub mod Rows
+pub mod Work
+pub mod Blocks
+pub mod Records
+pub mod Cover
+pub mod Invariant
+pub mod Kinds
