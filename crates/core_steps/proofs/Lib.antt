@@ -1,0 +1,10 @@
+pub mod Changing
+pub mod Sounding
+pub mod Bound
+pub mod Few
+pub mod Seats
+pub mod Telling
+pub mod First
+pub mod Growing
+pub mod Spending
+pub mod Registering

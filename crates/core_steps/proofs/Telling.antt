@@ -1,0 +1,238 @@
+-- What claims and looks tell a caller of the key words, and what they keep.
+use Rattle.std.proofs.Common.{◌≡◌, ◌≢◌, ℕ, zero, suc, ◌+◌, ◌-◌, ◌%◌, ◌*◌, ◌/◌, ◌<◌, Bool, true, false, cond, ◌&&◌, eqb, ne_eqb, eq-eqb, lt-ltb, le-ltb, ◌∷◌, length, get_or, arith, sym, ap, refl, ◌∙◌, subst, Option, Some, None}
+use mathlib.Core.Logic.{dite}
+use native.Mathlib.Decide.{ℕ_discrete, dec_lt}
+use native.Mathlib.Nat.{div-add-mod', add-mul}
+use Rattle.std.proofs.lemmas.Nat.{mod_below, mod-mul-add}
+use Rattle.core_state.specs.Graph.{Setting}
+use Rattle.core_state.specs.Words.{key, place_of}
+use Rattle.core_state.specs.Counts.{count, items, is_exploring, notifies, suspects_block, is_row, knows_row, word_in}
+use Rattle.core_state.specs.Rows.{HasKey, HasRow}
+use Rattle.core_state.specs.Kinds.{after}
+use Rattle.core_state.specs.Calls.{CanClaim}
+use Rattle.core_state.specs.Events.{claim_of, claim_left, after_claim, after_look, skipped_items, is_other, others_before, distance}
+use Rattle.core_state.specs.Views.{settle, blank, change_top, key_of}
+use Rattle.core_state.specs.declared.answers.Claim.TheVariants as claim
+use Rattle.core_state.specs.declared.job.Job.{Job}
+use Rattle.core_state.specs.declared.job.Job.TheVariants.{Explore}
+use Rattle.core_state.specs.declared.views.Item.{Item}
+use Rattle.core_state.specs.declared.views.Item.TheVariants as item
+use Rattle.core_state.specs.declared.views.Known.TheVariants as known
+use Rattle.core_state.specs.declared.views.View.{View}
+use Rattle.core_state.proofs.Cases.{eqb_here}
+use Rattle.core_state.proofs.Claiming.{word_known}
+use Rattle.core_state.proofs.Made.{push_none}
+use Rattle.core_state.proofs.Paths.{reaches, distance_below, at_distance}
+use Rattle.core_state.proofs.Spots.{read_at}
+use Rattle.core_state.proofs.Sums.{total_within}
+use Rattle.key_table.specs.Path.{path_row, HasPassed, IsNext}
+use Rattle.key_table.specs.Rules.{HasRules, ClaimTells, SeenTells, claimed_key, Learns}
+use Rattle.key_table.specs.declared.words.Claim.{Claim}
+use Rattle.key_table.specs.declared.words.Claim.TheVariants.{Made, Found, Other}
+use Rattle.key_table.specs.declared.words.Seen.{Seen}
+use Rattle.key_table.specs.declared.words.Seen.TheVariants.{Empty, Holds}
+use Rattle.core_steps.specs.Seat.{Explores, Awaits, known_of, key_in, key_event}
+use Rattle.core_steps.specs.Seat.Awaits.{by_port, by_block}
+use Rattle.core_steps.specs.Table.{Plain, IsSound, KeyStepped, view_at, core_by, is_later}
+use Rattle.core_steps.proofs.Changing.{elem_at, nothing_settles, nothing_skipped}
+use Rattle.core_steps.proofs.Seats.{explored_reached}
+use Rattle.core_steps.proofs.Sounding.{later_none}
+
+-- a row of a key's path, as the core counts it
+path_is : (k rows i : ℕ) → i < rows → path_row k rows i ≡ (k + i) % rows
+path_is k n i l =
+    let a : ℕ = k % n in let q : ℕ = k / n in let whole : q * n + a ≡ k = div-add-mod' k n in let small : a < n = mod_below k n (omega (arith, l)) in
+    dite (dec_lt (a + i) n)
+    (λ m. let x : q * n + (a + i) ≡ k + i = omega (arith, whole) in ap (λ (b : Bool). cond b (a + i) (a + i - n)) (lt-ltb (a + i) n m) ∙ sym (ap (λ (u : ℕ). u % n) (sym x) ∙ mod-mul-add q n (a + i) m))
+    (λ m. let c : ℕ = a + i - n in let y : (q + 1) * n ≡ q * n + 1 * n = add-mul q 1 n in let x : (q + 1) * n + c ≡ k + i = omega (arith, y, whole, m) in
+    ap (λ (b : Bool). cond b (a + i) (a + i - n)) (le-ltb (a + i) n (omega (arith, m))) ∙ sym (ap (λ (u : ℕ). u % n) (sym x) ∙ mod-mul-add (q + 1) n c (omega (arith, small, l, m))))
+
+holds_in : Option ℕ → ℕ → Type 0
+holds_in None k = ⊥
+holds_in (Some a) k = a ≡ k
+
+pub number_of : (n k : ℕ) → key_in n ≡ Some k → n ≡ k + 1
+unfolding holds_in
+number_of zero k e = absurd (subst (λ o. holds_in o k) (sym e) refl)
+number_of (suc n) k e = let same : n ≡ k = subst (λ o. holds_in o k) (sym e) refl in omega (arith, same)
+
+pub key_in-suc : (n k : ℕ) → n ≡ k + 1 → key_in n ≡ Some k
+key_in-suc n k e = let same : n ≡ suc k = omega (arith, e) in ap key_in same
+
+other_word : (n k : ℕ) → 0 < n → n ≢ k + 1 → is_other k n ≡ true
+other_word n k full ne = ap (λ (b : Bool). cond b false (cond (eqb n (k + 1)) false true)) (ne_eqb n 0 (λ z. omega (arith, z, full))) ∙ ap (λ (b : Bool). cond b false true) (ne_eqb n (k + 1) ne)
+
+module _ (e : Setting) (p : Plain) (i : ℕ) (low : i < length p.views) (s : IsSound e p) where
+  pub key_known : (r k : ℕ) → known_of (view_at p i) r ≡ Some k → HasKey e (core_by p.shape p.words p.blocks p.views) r k
+  key_known r k is = let n : ℕ = word_in r (view_at p i).known in let one : n ≡ k + 1 = number_of n k is in
+      let a = total_within p.views i (view_at p i) (knows_row r (n - 1)) (elem_at p.views i blank low) in let b : 0 < count (is_row r (n - 1)) (view_at p i).known = word_known r (view_at p i).known (omega (arith, one)) in
+      let has = s.holds.keys.known r (n - 1) (omega (arith, a, b)) in (has.0, let c = has.1 in omega (arith, c, one))
+
+  -- the number of a row's key word
+  number_at : (r k : ℕ) → HasKey e (core_by p.shape p.words p.blocks p.views) r k → get_or p.words (place_of p.shape (key r)) 0 ≡ k + 1
+  number_at r k has = let a = read_at p.shape p.words (key r) (lt-ltb r p.shape.rows (subst (λ h. r < h.rows) (sym s.shape_is) has.0)) in let b = has.1 in omega (arith, a, b)
+
+  pub stays_of : (r k : ℕ) → known_of (view_at p i) r ≡ Some k → get_or p.words (place_of p.shape (key r)) 0 ≡ k + 1
+  stays_of r k is = number_at r k (key_known r k is)
+
+  awaited : (k : ℕ) → Awaits e (view_at p i) k → HasRow e (core_by p.shape p.words p.blocks p.views) k
+  awaited k (by_port a q z to) = subst (HasRow e (core_by p.shape p.words p.blocks p.views)) to (s.holds.keys.of_notify a q (let x = total_within p.views i (view_at p i) (items (notifies a q)) (elem_at p.views i blank low) in omega (arith, x, z)))
+  awaited k (by_block b u z to) = subst (HasRow e (core_by p.shape p.words p.blocks p.views)) to (s.holds.keys.of_cause b u (let x = total_within p.views i (view_at p i) (items (suspects_block b u)) (elem_at p.views i blank low) in omega (arith, x, z)))
+
+  pub rules_of : HasRules e.shape.rows e.keys (Explores e (view_at p i)) (Awaits e (view_at p i)) (known_of (view_at p i))
+  rules_of = record {
+    few = s.setting.few_keys;
+    may_listed = λ k x. s.setting.listed k (explored_reached e p i low s k x);
+    stands_listed = λ k x. let row = awaited k x in s.setting.listed k (s.holds.keys.reached row.0 k row.1);
+    known_listed = λ r k is. s.setting.listed k (s.holds.keys.reached r k (key_known r k is));
+    one_row = λ r o k a b. s.holds.keys.one_row r o k (key_known r k a) (key_known o k b);
+  }
+
+  -- a key that stands is not next at an empty word
+  pub standing_of : (k r : ℕ) → Awaits e (view_at p i) k → IsNext (known_of (view_at p i)) k e.shape.rows r → get_or p.words (place_of p.shape (key r)) 0 ≢ 0
+  standing_of k r x next empty = let rows : ℕ = e.shape.rows in let row = awaited k x in let t : ℕ = row.0 in let has = row.1 in let d : ℕ = distance rows k t in let less : d < rows = distance_below rows k t has.0 in let to = reaches rows k t has.0 in
+      let here : r ≡ (k + next.step) % rows = sym next.at ∙ path_is k rows next.step next.within in
+      let full = number_at t k has in
+      dite (dec_lt d next.step)
+      (λ l. let o = next.passed.others d l in let q : known_of (view_at p i) t ≡ Some o.other = subst (λ y. known_of (view_at p i) y ≡ Some o.other) (path_is k rows d less ∙ sym to) o.is in
+      o.differs (let a = stays_of t o.other q in omega (arith, a, full)))
+      (λ l. dite (dec_lt next.step d)
+      (λ m. let a = s.holds.keys.path t k d next.step has less to m in let there : r < p.shape.rows = subst (λ h. r < h.rows) (sym s.shape_is) (subst (λ y. y < rows) (sym here) (mod_below (k + next.step) rows (omega (arith, less)))) in
+      let b = read_at p.shape p.words (key r) (lt-ltb r p.shape.rows there) in let c = ap (λ y. (core_by p.shape p.words p.blocks p.views).word (key y)) here in omega (arith, a, b, c, empty))
+      (λ m. let z : d ≡ next.step = omega (arith, l, m) in let w : t ≡ r = to ∙ ap (λ y. (k + y) % rows) z ∙ sym here in let c = ap (λ y. get_or p.words (place_of p.shape (key y)) 0) w in omega (arith, c, full, empty)))
+
+  -- the rows before the one that is next are known to hold other keys
+  passed_is : (k d : ℕ) → d < e.shape.rows → HasPassed (known_of (view_at p i)) k e.shape.rows d → others_before e.shape.rows k (view_at p i).known d ≡ true
+  passed_is k zero l passed = refl
+  passed_is k (suc d) l passed = let o = passed.others d (omega arith) in let at = path_is k e.shape.rows d (omega (arith, l)) in let n : ℕ = word_in ((k + d) % e.shape.rows) (view_at p i).known in
+      let one : n ≡ o.other + 1 = number_of n o.other (subst (λ y. known_of (view_at p i) y ≡ Some o.other) at o.is) in
+      ap (λ (b : Bool). b && is_other k n) (passed_is k d (omega (arith, l)) (record { others = λ step m. passed.others step (omega (arith, m)) })) ∙ other_word n k (omega (arith, one)) (λ q. o.differs (omega (arith, one, q)))
+
+  pub can_of : (r k : ℕ) → r < e.shape.rows → Explores e (view_at p i) k → IsNext (known_of (view_at p i)) k e.shape.rows r → CanClaim e (view_at p i) r k
+  can_of r k l x next = let here : r ≡ (k + next.step) % e.shape.rows = sym next.at ∙ path_is k e.shape.rows next.step next.within in record {
+    explorer = x.explorer;
+    life = x.life;
+    place = x.place;
+    low = l;
+    exploring = x.exploring;
+    is_place = x.is_place;
+    names = x.names;
+    path = subst (λ d. others_before e.shape.rows k (view_at p i).known d ≡ true) (at_distance e.shape.rows k r next.step l next.within here) (passed_is k next.step next.within next.passed);
+  }
+
+-- what a claim or a look leaves as it was, and the number that the row is known by
+record Effect (v w : View) (row left : ℕ) : Type 0 where
+  its : (p : Item → Bool) → ((k l : ℕ) (j : Job) → p (item.Owe k j l) ≡ false) → items p w ≡ items p v
+  knows : (x : ℕ) → x ≢ row → word_in x w.known ≡ word_in x v.known
+  here : word_in row w.known ≡ left
+
+told_effect : (v : View) (row m : ℕ) → Effect v (record v { known = known.Row row m ∷ v.known }) row (m + 1)
+told_effect v row m = record {
+  its = λ p q. refl;
+  knows = λ x ne. ap (λ (b : Bool). cond b (m + 1) (word_in x v.known)) (ne_eqb x row ne);
+  here = ap (λ (b : Bool). cond b (m + 1) (word_in row v.known)) (eqb_here row);
+}
+
+made_effect : (v : View) (row k : ℕ) → Effect v (after_claim row k claim.Made v) row (k + 1)
+made_effect v row k = record {
+  its = λ p q. push_none p (item.Owe k Explore 1) v.stacks (q k 1 Explore);
+  knows = λ x ne. ap (λ (b : Bool). cond b (k + 1) (word_in x v.known)) (ne_eqb x row ne);
+  here = ap (λ (b : Bool). cond b (k + 1) (word_in row v.known)) (eqb_here row);
+}
+
+module _ (e : Setting) (v : View) (none : items is_later v ≡ 0) where
+  settled : (w : View) (row left : ℕ) → items is_later w ≡ 0 → Effect v w row left → Effect v (settle e.graph e.plan w) row left
+  settled w row left z x = subst (λ u. Effect v u row left) (sym (nothing_settles e.graph e.plan w z)) x
+
+  later_same : (w : View) (row left : ℕ) → Effect v w row left → items is_later w ≡ 0
+  later_same w row left x = x.its is_later (λ k l j. refl) ∙ none
+
+  claim_effect : (row k n : ℕ) → Effect v (settle e.graph e.plan (after_claim row k (claim_of k n) v)) row (claim_left k n)
+  claim_effect row k n = dite (ℕ_discrete n 0)
+      (λ z. subst (λ m. Effect v (settle e.graph e.plan (after_claim row k (claim_of k m) v)) row (claim_left k m)) (sym z) (settled (after_claim row k claim.Made v) row (k + 1) (later_same (after_claim row k claim.Made v) row (k + 1) (made_effect v row k)) (made_effect v row k)))
+      (λ full. let w : View = record v { known = known.Row row (n - 1) ∷ v.known } in
+      subst (λ u. Effect v (settle e.graph e.plan u) row (claim_left k n)) (sym (found row k n full))
+      (subst (Effect v (settle e.graph e.plan w) row) (let a : n - 1 + 1 ≡ n = omega (arith, full) in a ∙ sym (ap (λ (b : Bool). cond b (k + 1) n) (ne_eqb n 0 full))) (settled w row (n - 1 + 1) (later_same w row (n - 1 + 1) (told_effect v row (n - 1))) (told_effect v row (n - 1)))))
+    where
+      found : (r k n : ℕ) → n ≢ 0 → after_claim r k (claim_of k n) v ≡ record v { known = known.Row r (n - 1) ∷ v.known }
+      found r k n full = ap (λ (b : Bool). after_claim r k (cond b claim.Made (cond (eqb n (k + 1)) claim.Found (claim.Other (key_of (n - 1))))) v) (ne_eqb n 0 full) ∙ dite (ℕ_discrete n (k + 1))
+          (λ y. ap (λ (b : Bool). after_claim r k (cond b claim.Found (claim.Other (key_of (n - 1)))) v) (eq-eqb n (k + 1) y) ∙ ap (λ m. record v { known = known.Row r m ∷ v.known }) (let a : k ≡ n - 1 = omega (arith, y) in a))
+          (λ y. ap (λ (b : Bool). after_claim r k (cond b claim.Found (claim.Other (key_of (n - 1)))) v) (ne_eqb n (k + 1) y))
+
+  look_full : (row n : ℕ) → n ≢ 0 → Effect v (settle e.graph e.plan (after_look e.graph e.shape.rows row n v)) row n
+  look_full row n full = let w : View = record v { known = known.Row row (n - 1) ∷ v.known } in
+      subst (λ u. Effect v (settle e.graph e.plan u) row n) (sym (ap (λ (b : Bool). cond b (change_top (skipped_items e.graph e.shape.rows row v.known) v) (record v { known = known.Row row (n - 1) ∷ v.known })) (ne_eqb n 0 full)))
+      (subst (Effect v (settle e.graph e.plan w) row) (let a : n - 1 + 1 ≡ n = omega (arith, full) in a) (settled w row (n - 1 + 1) (later_same w row (n - 1 + 1) (told_effect v row (n - 1))) (told_effect v row (n - 1))))
+
+  look_empty : (row : ℕ) → settle e.graph e.plan (after_look e.graph e.shape.rows row 0 v) ≡ v
+  look_empty row = ap (settle e.graph e.plan) (nothing_skipped e.graph e.shape.rows row v none) ∙ nothing_settles e.graph e.plan v none
+
+  look_effect : (row n : ℕ) → Effect v (settle e.graph e.plan (after_look e.graph e.shape.rows row n v)) row (cond (eqb n 0) (word_in row v.known) n)
+  look_effect row n = dite (ℕ_discrete n 0)
+      (λ z. subst (λ m. Effect v (settle e.graph e.plan (after_look e.graph e.shape.rows row m v)) row (cond (eqb m 0) (word_in row v.known) m)) (sym z)
+      (subst (λ u. Effect v u row (word_in row v.known)) (sym (look_empty row)) (record { its = λ p q. refl; knows = λ x ne. refl; here = refl })))
+      (λ full. subst (Effect v (settle e.graph e.plan (after_look e.graph e.shape.rows row n v)) row) (sym (ap (λ (b : Bool). cond b (word_in row v.known) n) (ne_eqb n 0 full))) (look_full row n full))
+
+  -- the number that the row is known by after a claim or a look
+  left_of : Option ℕ → ℕ → ℕ → ℕ
+  left_of None row n = cond (eqb n 0) (word_in row v.known) n
+  left_of (Some k) row n = claim_left k n
+
+  any_effect : (row : ℕ) (claimed : Option ℕ) (n : ℕ) → Effect v (after e (key_event row claimed) n v) row (left_of claimed row n)
+  unfolding left_of
+  any_effect row None n = look_effect row n
+  any_effect row (Some k) n = claim_effect row k n
+
+  left_full : (claimed : Option ℕ) (row n : ℕ) → n ≢ 0 → left_of claimed row n ≡ n
+  unfolding left_of
+  left_full None row n full = ap (λ (b : Bool). cond b (word_in row v.known) n) (ne_eqb n 0 full)
+  left_full (Some k) row n full = ap (λ (b : Bool). cond b (k + 1) n) (ne_eqb n 0 full)
+
+module _ (e : Setting) (i row : ℕ) (claimed : Option ℕ) (n : ℕ) (p q : Plain) (x : KeyStepped e i row claimed n p q) where
+  effect : Effect (view_at p i) (view_at q i) row (left_of e (view_at p i) (later_none e p i x.low x.before) claimed row n)
+  effect = subst (λ w. Effect (view_at p i) w row (left_of e (view_at p i) (later_none e p i x.low x.before) claimed row n)) (sym x.view_is) (any_effect e (view_at p i) (later_none e p i x.low x.before) row claimed n)
+
+  pub may_stays : (k : ℕ) → Explores e (view_at p i) k → Explores e (view_at q i) k
+  may_stays k y = record { explorer = y.explorer; life = y.life; place = y.place; exploring = let a = effect.its (is_exploring y.explorer y.life y.place) (λ k l j. refl) in let b = y.exploring in omega (arith, a, b); is_place = y.is_place; names = y.names }
+
+  pub may_back : (k : ℕ) → Explores e (view_at q i) k → Explores e (view_at p i) k
+  may_back k y = record { explorer = y.explorer; life = y.life; place = y.place; exploring = let a = effect.its (is_exploring y.explorer y.life y.place) (λ k l j. refl) in let b = y.exploring in omega (arith, a, b); is_place = y.is_place; names = y.names }
+
+  pub stands_stays : (k : ℕ) → Awaits e (view_at p i) k → Awaits e (view_at q i) k
+  stands_stays k (by_port a b z to) = by_port a b (let y = effect.its (notifies a b) (λ k l j. refl) in omega (arith, y, z)) to
+  stands_stays k (by_block a b z to) = by_block a b (let y = effect.its (suspects_block a b) (λ k l j. refl) in omega (arith, y, z)) to
+
+  pub stands_back : (k : ℕ) → Awaits e (view_at q i) k → Awaits e (view_at p i) k
+  stands_back k (by_port a b z to) = by_port a b (let y = effect.its (notifies a b) (λ k l j. refl) in omega (arith, y, z)) to
+  stands_back k (by_block a b z to) = by_block a b (let y = effect.its (suspects_block a b) (λ k l j. refl) in omega (arith, y, z)) to
+
+  pub stays : (k : ℕ) → known_of (view_at p i) row ≡ Some k → n ≡ k + 1
+  stays k is = x.found_is ∙ stays_of e p i x.low x.before row k is
+
+  pub known_stays : (r k : ℕ) → known_of (view_at p i) r ≡ Some k → known_of (view_at q i) r ≡ Some k
+  known_stays r k is = dite (ℕ_discrete r row)
+      (λ z. let one : n ≡ k + 1 = stays k (subst (λ y. known_of (view_at p i) y ≡ Some k) z is) in
+      ap (λ y. known_of (view_at q i) y) z ∙ key_in-suc (word_in row (view_at q i).known) k (effect.here ∙ left_full e (view_at p i) (later_none e p i x.low x.before) claimed row n (λ y. omega (arith, y, one)) ∙ one))
+      (λ ne. ap key_in (effect.knows r ne) ∙ is)
+
+  pub rules_after : HasRules e.shape.rows e.keys (Explores e (view_at q i)) (Awaits e (view_at q i)) (known_of (view_at q i))
+  rules_after = rules_of e q i (let a = x.workers_are in let b = x.low in omega (arith, a, b)) x.afterwards
+
+  known_now : (k : ℕ) → left_of e (view_at p i) (later_none e p i x.low x.before) claimed row n ≡ k + 1 → known_of (view_at q i) row ≡ Some k
+  known_now k is = key_in-suc (word_in row (view_at q i).known) k (effect.here ∙ is)
+
+  full_now : (k : ℕ) → n ≡ k + 1 → known_of (view_at q i) row ≡ Some k
+  full_now k is = known_now k (left_full e (view_at p i) (later_none e p i x.low x.before) claimed row n (λ z. omega (arith, z, is)) ∙ is)
+
+  pub learnt : (a : Seen) → SeenTells a n → Learns a (known_of (view_at q i) row)
+  learnt Empty t = tt
+  learnt (Holds k) t = full_now k.0 t
+
+  pub claimed_now : (k : ℕ) (a : Claim) → claimed ≡ Some k → ClaimTells a k n → known_of (view_at q i) row ≡ Some (claimed_key a k)
+  unfolding left_of
+  claimed_now k Made of t = known_now k (ap (λ o. left_of e (view_at p i) (later_none e p i x.low x.before) o row n) of ∙ ap (claim_left k) t)
+  claimed_now k Found of t = full_now k t
+  claimed_now k (Other o) of t = full_now o.0 t.0
+
+  pub standing : (k : ℕ) → Awaits e (view_at p i) k → IsNext (known_of (view_at p i)) k e.shape.rows row → n ≢ 0
+  standing k a next z = standing_of e p i x.low x.before k row a next (sym x.found_is ∙ z)

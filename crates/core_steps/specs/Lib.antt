@@ -1,0 +1,3 @@
+pub mod Seat
+pub mod Kinds
+pub mod Table

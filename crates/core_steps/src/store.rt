@@ -1,0 +1,68 @@
+//! The records of one worker.
+use graph_model::Record;
+use std::alloc::{AllocError, Global};
+use std::marker::Model;
+
+/// Records in order, and room for more.
+#[derive(Drop)]
+pub(crate) struct Store {
+    records: Vec<Record>,
+}
+
+impl Model for Store {
+    ghost use Rattle.std.specs.Prelude.{◌-◌, vec_len, vec_capacity};
+    ghost use Rattle.core_steps.specs.Table.{Stored};
+
+    ghost Value = { Stored };
+
+    ghost view = { λ s. record { records = s.records.items; room = vec_capacity s.records - vec_len s.records } };
+}
+
+impl Store {
+    ghost use Rattle.std.specs.Prelude.{◌≡◌, ◌≤◌, ◌<◌, [], OnOk};
+    ghost use Rattle.core_steps.specs.Table.{with_record};
+
+    pub(crate) fn new(alloc: Global) -> Store
+        ensures { result.records ≡ [] }
+    {
+        Store {
+            records: Vec::new(alloc),
+        }
+    }
+
+    /// Makes room for so many records.
+    pub(crate) fn reserve(&mut self, n: u32) -> Result<(), AllocError>
+        ensures records { self.new.records ≡ self.old.records }
+        ensures room { self.old.room ≤ self.new.room }
+        ensures ok { OnOk result (n ≤ self.new.room) }
+    {
+        self.records.reserve(n as usize)
+    }
+
+    pub(crate) fn note(&mut self, entry: Record)
+        requires { 0 < self.old.room }
+        ensures { self.new ≡ with_record self.old entry }
+    {
+        self.records.push_reserved(entry);
+    }
+
+    /// A store with these records.
+    pub(crate) fn of(records: Vec<Record>) -> Store
+        ensures { result.records ≡ records.items }
+    {
+        Store { records }
+    }
+
+    pub(crate) fn as_slice(&self) -> &[Record]
+        ensures { result.now ≡ self.now.records }
+    {
+        self.records.as_slice()
+    }
+
+    pub(crate) fn into_records(self) -> Vec<Record>
+        ensures { result.items ≡ self.records }
+    {
+        let Store { records } = self;
+        records
+    }
+}
