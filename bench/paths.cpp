@@ -121,7 +121,8 @@ std::optional<uint64_t> number(std::string_view word) {
   return value;
 }
 
-std::optional<Matrix> read_matrix(std::string_view text) {
+// The first line: a matrix without weights yet.
+std::optional<Matrix> read_head(std::string_view& text) {
   auto head = next_line(text);
   if (!head) return std::nullopt;
   auto first = next_word(*head), second = next_word(*head);
@@ -130,10 +131,17 @@ std::optional<Matrix> read_matrix(std::string_view text) {
   if (!n || !s || *n < 1 || *n > 512 || *s < 1 || *s > 32 || (*n + *s - 1) / *s > 16) return std::nullopt;
   Matrix matrix{uint32_t(*n), uint32_t(*s), {}};
   matrix.weights.reserve(*n * *n);
-  for (uint64_t i = 0; i < *n; i++) {
+  return matrix;
+}
+
+std::optional<Matrix> read_matrix(std::string_view text) {
+  auto matrix = read_head(text);
+  if (!matrix) return std::nullopt;
+  const uint64_t n = matrix->vertices;
+  for (uint64_t i = 0; i < n; i++) {
     auto line = next_line(text);
     if (!line) return std::nullopt;
-    for (uint64_t j = 0; j < *n; j++) {
+    for (uint64_t j = 0; j < n; j++) {
       auto word = next_word(*line);
       if (!word) return std::nullopt;
       std::optional<uint32_t> weight;
@@ -142,7 +150,7 @@ std::optional<Matrix> read_matrix(std::string_view text) {
         if (!value || *value > 2147483647) return std::nullopt;
         weight = uint32_t(*value);
       }
-      matrix.weights.push_back(i == j ? 0 : weight);
+      matrix->weights.push_back(i == j ? 0 : weight);
     }
     if (next_word(*line)) return std::nullopt;
   }
@@ -153,19 +161,14 @@ std::optional<Matrix> read_matrix(std::string_view text) {
 
 // The same in one pass over the bytes of the rows.
 std::optional<Matrix> read_in_one_pass(std::string_view text) {
-  auto head = next_line(text);
-  if (!head) return std::nullopt;
-  auto first = next_word(*head), second = next_word(*head);
-  if (!first || !second || next_word(*head)) return std::nullopt;
-  auto n = number(*first), s = number(*second);
-  if (!n || !s || *n < 1 || *n > 512 || *s < 1 || *s > 32 || (*n + *s - 1) / *s > 16) return std::nullopt;
-  Matrix matrix{uint32_t(*n), uint32_t(*s), {}};
-  matrix.weights.reserve(*n * *n);
+  auto matrix = read_head(text);
+  if (!matrix) return std::nullopt;
+  const uint64_t n = matrix->vertices;
   const char *at = text.data(), *end = at + text.size();
   auto ends_line = [&] { return at == end || *at == '\n' || (*at == '\r' && at + 1 != end && at[1] == '\n'); };
-  for (uint64_t i = 0; i < *n; i++) {
+  for (uint64_t i = 0; i < n; i++) {
     if (at == end) return std::nullopt;
-    for (uint64_t j = 0; j < *n; j++) {
+    for (uint64_t j = 0; j < n; j++) {
       while (at != end && *at == ' ') at++;
       if (ends_line()) return std::nullopt;
       std::optional<uint32_t> weight;
@@ -180,7 +183,7 @@ std::optional<Matrix> read_in_one_pass(std::string_view text) {
         weight = uint32_t(value);
       }
       if (!ends_line() && *at != ' ') return std::nullopt;
-      matrix.weights.push_back(i == j ? 0 : weight);
+      matrix->weights.push_back(i == j ? 0 : weight);
     }
     while (at != end && *at == ' ') at++;
     if (!ends_line()) return std::nullopt;
