@@ -13,8 +13,9 @@ use std::alloc::{AllocError, Global};
 
 /// An accepted graph of a file.
 ///
-/// A call that takes a key finds the task by a binary search. All else takes constant time, but for `needed` and
-/// `reachable`, which follow each edge once.
+/// A call that takes a key finds the task in constant time where the keys follow one another without a gap, and
+/// else by a binary search. All else takes constant time, but for `needed` and `reachable`, which follow each edge
+/// once.
 #[derive(Drop)]
 pub struct FileGraph {
     keys: Vec<u64>,

@@ -1,4 +1,4 @@
-ghost use Rattle.std.specs.Prelude.{◌≡◌, ◌<◌, length, slice_index, MatchOption, Contains};
+ghost use Rattle.std.specs.Prelude.{◌≡◌, ◌<◌, length, slice_index, IfSome, MatchOption, Contains};
 ghost use Rattle.audit_checks.specs.Tasks.{IsAscending, places_of};
 
 use raw_graph::RawTask;
@@ -23,11 +23,23 @@ pub fn place(task: &RawTask, j: usize) -> u64
     }
 }
 
+// Where a key stands among keys that follow one another without a gap: most files number their tasks so.
+fn find_by_distance(keys: &[u64], key: u64) -> Option<usize>
+    ensures { IfSome result (λ i. (i < length keys.now) × (slice_index keys.now i ≡ key)) }
+{
+    let first = keys.first()?;
+    let i = key.checked_sub(*first)? as usize;
+    if *keys.get(i)? == key { Some(i) } else { None }
+}
+
 // Where a key stands.
 pub fn find(keys: &[u64], key: u64) -> Option<usize>
     requires { IsAscending keys.now }
     ensures { MatchOption result (¬ Contains keys.now key) (λ i. (i < length keys.now) × (slice_index keys.now i ≡ key)) }
 {
+    if let Some(i) = find_by_distance(keys, key) {
+        return Some(i);
+    }
     match keys.binary_search(&key) {
         Ok(i) => Some(i),
         Err(_) => None,
