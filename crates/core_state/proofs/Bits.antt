@@ -1,7 +1,7 @@
 -- One bit set in a word.
 use Rattle.std.proofs.Common.{◌≡◌, ◌≢◌, ℕ, ◌+◌, ◌-◌, ◌/◌, ◌%◌, ◌^◌, ◌<◌, bit_or, sym, ap, ◌∙◌, arith}
 use Rattle.std.specs.Int.{bit_at}
-use Rattle.std.proofs.lemmas.Nat.Bits.{bit_at_and, bit_at_ones, bit_at_or, bit_at-pow_same, bit_at-pow_other, bit_at-lt, same_from_bits}
+use Rattle.std.proofs.lemmas.Nat.Bits.{bit_at_above, bit_at_and, bit_at_ones, bit_at_or, bit_at-pow_same, bit_at-pow_other, bit_at-lt, same_from_bits}
 use Rattle.std.proofs.Math.Nat.{div-div-eq-div-mul}
 use Rattle.std.proofs.lemmas.Nat.{pow-add, and_mask}
 use Rattle.core_state.specs.Words.{life_of}
@@ -19,6 +19,15 @@ quotient_bit n k i = ap (λ (x : ℕ). x % 2) (div-div-eq-div-mul n (2 ^ k) (2 ^
 pub life_set : (n j : ℕ) → j < 48 → life_of (bit_or n (2 ^ j)) ≡ life_of n
 life_set n j h = ap (λ (x : ℕ). x + 1) (same_from_bits (bit_or n (2 ^ j) / 2 ^ 48) (n / 2 ^ 48)
     (λ i. quotient_bit (bit_or n (2 ^ j)) 48 i ∙ bit_set_else n j (48 + i) (λ e. omega arith) ∙ sym (quotient_bit n 48 i)))
+
+-- bits below the life leave it
+pub life_or : (n x : ℕ) → x < 2 ^ 48 → life_of (bit_or n x) ≡ life_of n
+life_or n x small = ap (λ (y : ℕ). y + 1) (same_from_bits (bit_or n x / 2 ^ 48) (n / 2 ^ 48)
+    (λ i. quotient_bit (bit_or n x) 48 i ∙ (let a = bit_at_or n x (48 + i) in let b = bit_at_above x 48 (48 + i) small (omega arith) in omega (arith, a, b)) ∙ sym (quotient_bit n 48 i)))
+
+-- a bit that is set stays set
+pub bit_or_here : (n x i : ℕ) → bit_at x i ≡ 1 → bit_at (bit_or n x) i ≡ 1
+bit_or_here n x i is = let a = bit_at_or n x i in let b = bit_at-lt n i in omega (arith, a, b, is)
 
 -- the low bits of a remainder
 pub low_bits : (m n j : ℕ) → j < m → bit_at (n % 2 ^ m) j ≡ bit_at n j

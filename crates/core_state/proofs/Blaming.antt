@@ -1,5 +1,5 @@
 -- A reader that finds a later version blames it rightly: it has itself been replaced before.
-use Rattle.std.proofs.Common.{◌≡◌, ◌≢◌, ◌⊎◌, ℕ, suc, ◌+◌, ◌-◌, ◌<◌, ◌≤◌, Bool, true, false, cond, eqb, nat_lt, ◌&&◌, [], ◌∷◌, ⊎_elim, arith, sym, ap, refl, ◌∙◌, subst}
+use Rattle.std.proofs.Common.{◌≡◌, ◌≢◌, ℕ, ◌+◌, ◌-◌, ◌<◌, ◌≤◌, Bool, true, nat_lt, ◌&&◌, arith, ap, refl, ◌∙◌, subst}
 use mathlib.Core.Logic.{dite}
 use native.Mathlib.Decide.{ℕ_discrete, dec_lt}
 use Rattle.std.proofs.lemmas.Bool.{lt-ltb}
@@ -18,7 +18,8 @@ use Rattle.graph_model.specs.declared.record.Cause.{Cause}
 use Rattle.graph_model.specs.declared.record.Cause.TheVariants as cause
 use Rattle.graph_model.specs.declared.record.Record.{Record}
 use Rattle.graph_model.specs.declared.record.Record.TheVariants as record_of
-use Rattle.core_state.proofs.Cases.{two_here, eqb_here, two_tells}
+use Rattle.core_state.proofs.Cases.{two_here, eqb_here}
+use Rattle.core_state.proofs.Claiming.{items_below}
 use Rattle.core_state.proofs.Growing.{shown_grounded}
 use Rattle.core_state.proofs.Chains.{many_some, version_below, reader_wrote}
 
@@ -57,21 +58,12 @@ module _ (e : Setting) (fit : Sound e) (s : Core) (sums : Sums s) (i : Invariant
       (λ z. let one : replacing n ≡ 1 = omega (arith, z) in let st = (i.lives.each r k has).being_replaced one in dite (dec_lt (e.graph.notify_words k) st.done) (λ q. let a = st.descriptor_after (let b = st.at_most in omega (arith, b, q)) in omega (arith, a, one)) (λ q. let a = st.descriptor_before (omega (arith, q)) in omega (arith, a))) in
       let a = i.records.replaced r k m has in let t : hit (nat_lt 0 m && nat_lt m (standing_life n + replacing n)) ≡ 1 = rw (lt-ltb 0 m some, lt-ltb m (standing_life n + replacing n) (omega (arith, low, current, top))) in omega (arith, a, t)
     where
-      one_held : (k l : ℕ) (x : Rattle.core_state.specs.declared.views.Item.Item) → hit (is_compute k l x) ≤ hit (Rattle.core_state.specs.Counts.carries Compute k l x)
-      one_held k l (Rattle.core_state.specs.declared.views.Item.TheVariants.Compute a b c d f) = omega arith
-      one_held k l x = omega arith
-
-      count_held : (k l : ℕ) (xs : Rattle.std.proofs.Common.List Rattle.core_state.specs.declared.views.Item.Item) → Rattle.core_state.specs.Counts.count (is_compute k l) xs ≤ Rattle.core_state.specs.Counts.count (Rattle.core_state.specs.Counts.carries Compute k l) xs
-      count_held k l [] = omega arith
-      count_held k l (x ∷ xs) = let a = count_held k l xs in let b = one_held k l x in
-          let c = Rattle.core_state.proofs.Cases.bump_is (is_compute k l x) (Rattle.core_state.specs.Counts.count (is_compute k l) xs) in let d = Rattle.core_state.proofs.Cases.bump_is (Rattle.core_state.specs.Counts.carries Compute k l x) (Rattle.core_state.specs.Counts.count (Rattle.core_state.specs.Counts.carries Compute k l) xs) in omega (arith, a, b, c, d)
-
-      stacks_held : (k l : ℕ) (ss : Rattle.std.proofs.Common.List Rattle.core_state.specs.declared.views.Stack.Stack) → Rattle.core_state.specs.Counts.in_stacks (is_compute k l) ss ≤ Rattle.core_state.specs.Counts.in_stacks (Rattle.core_state.specs.Counts.carries Compute k l) ss
-      stacks_held k l [] = omega arith
-      stacks_held k l (x ∷ xs) = let a = stacks_held k l xs in let b = count_held k l x.items in omega (arith, a, b)
-
       computes_held : (k l : ℕ) (v : Rattle.core_state.specs.declared.views.View.View) → items (is_compute k l) v ≤ held Compute k l v
-      computes_held k l v = stacks_held k l v.stacks
+      computes_held k l v = items_below (is_compute k l) (Rattle.core_state.specs.Counts.carries Compute k l) (λ x e. of x e) v.stacks
+        where
+          of : (x : Rattle.core_state.specs.declared.views.Item.Item) → is_compute k l x ≡ true → Rattle.core_state.specs.Counts.carries Compute k l x ≡ true
+          of (Rattle.core_state.specs.declared.views.Item.TheVariants.Compute a b c d f) e = e
+          of x e = absurd cc
 
   -- the cause with which a reader blames a later version is grounded
   pub found_above : (r k l b v u : ℕ) → HasKey e s r k → 0 < s.total (items (is_compute k l)) → 0 < l → k ≢ e.graph.root → Reads e.graph k b v → 0 < v → v < u → 0 < many s (is_version b u) → Grounded e.graph (many s) (cause.Block b v (found.Other u))

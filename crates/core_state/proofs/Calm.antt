@@ -7,7 +7,7 @@ use Rattle.graph_model.specs.declared.plan.Strike.{Strike}
 use Rattle.core_state.specs.Words.{Spot, pending, stop, key, descriptor, notify, recovery, posted, turn, spot_of}
 use Rattle.core_state.specs.Counts.{hit, bump, count, items, in_stacks, is_at, notifies, suspects_block, is_created, is_owe, came_with, came, ended, begun, facts, is_row, is_idle, is_stopped, is_stops, is_seen_life, is_seen_mark, is_seen_closed, knows_row, waits, in_hand, in_wrong_hand, struck_by, struck_idly, struck_upto, stack_count, spare, too_many}
 use Rattle.core_state.specs.Change.{Core, Change}
-use Rattle.core_state.specs.Cover.{covers_self, covers_edge, works, Passed}
+use Rattle.core_state.specs.Cover.{covers_self, covers_edge, works}
 use Rattle.core_state.specs.Rows.{HasKey, Keys}
 use Rattle.core_state.specs.Work.{posted_count, Credits}
 use Rattle.core_state.specs.Invariant.{Invariant}
@@ -23,7 +23,7 @@ use Rattle.core_state.specs.declared.views.Word.{Word}
 use Rattle.core_state.specs.declared.views.Word.TheVariants as word
 use Rattle.core_state.specs.declared.views.View.{View}
 use Rattle.core_state.proofs.Cases.{two_tells}
-use Rattle.core_state.proofs.Frames.{SameItems, SameRecords, SameEnded, SameBegun, SameWaits, SameKeys, SameDescriptors, SameNotify, SameRecovery, SamePosted, was, keys_stay, frame_empty, frame_lives, frame_content, frame_jobs, frame_computings, frame_root, frame_blocks, frame_records, frame_causes, frame_strikes, frame_facts, frame_cover, frame_activity, frame_no_fault, frame_passed}
+use Rattle.core_state.proofs.Frames.{SameItems, SameRecords, SameEnded, SameBegun, SameWaits, SameKeys, SameDescriptors, SameNotify, SameRecovery, SamePosted, was, keys_stay, frame_empty, frame_lives, frame_content, frame_jobs, frame_computings, frame_root, frame_blocks, frame_records, frame_causes, frame_strikes, frame_facts, frame_cover, frame_activity, frame_no_fault}
 
 -- no job word of the first n rows changes
 pub posted_same : (p q : Spot → ℕ) (n : ℕ) → ((i : Job) (r : ℕ) → q (posted i r) ≡ p (posted i r)) → posted_count q n ≡ posted_count p n
@@ -91,9 +91,6 @@ module _ (e : Setting) (s t : Core) where
     activity = frame_activity e s t c.keys c.descriptors c.posts c.recs (λ k l. let a = c.working k l in omega (arith, a)) i.activity;
     no_fault = frame_no_fault e s t c.keys c.recoveries c.its c.recs c.blocks i.no_fault;
   }
-
-  pub calm_passed : Calm e s t → Passed e s → Passed e t
-  calm_passed c i = frame_passed e s t c.its c.recs c.by i
 
 -- the view that steps keeps these fields
 module _ (e : Setting) (s t : Core) (at : Spot) (n m : ℕ) (v w : View) (c : Change s t at n m v w) where

@@ -65,6 +65,19 @@ fewer p q h (x ∷ xs) z = let a = bump_is (p x) (count p xs) in let b = bump_is
     by true e n = let a : hit (p x) ≡ 1 = ap hit (h x e) in absurd (omega (arith, a, n))
     by false e n = refl
 
+pub count_below : {A : Type 0} (p q : A → Bool) → ((x : A) → p x ≡ true → q x ≡ true) → (xs : List A) → count p xs ≤ count q xs
+count_below p q h [] = omega arith
+count_below p q h (x ∷ xs) = let a = bump_is (p x) (count p xs) in let b = bump_is (q x) (count q xs) in let c = count_below p q h xs in let d : hit (p x) ≤ hit (q x) = by (p x) refl in omega (arith, a, b, c, d)
+  where
+    by : (t : Bool) → p x ≡ t → hit t ≤ hit (q x)
+    by true e = let a = ap hit (h x e) in omega (arith, a)
+    by false e = omega arith
+
+-- the items of one kind are no more than those of a wider one
+pub items_below : (p q : Item → Bool) → ((x : Item) → p x ≡ true → q x ≡ true) → (ss : List Stack) → in_stacks p ss ≤ in_stacks q ss
+items_below p q h [] = omega arith
+items_below p q h (s ∷ ss) = let a = count_below p q h s.items in let b = items_below p q h ss in omega (arith, a, b)
+
 pub fewer_items : (p q : Item → Bool) → ((x : Item) → q x ≡ true → p x ≡ true) → (ss : List Stack) → in_stacks p ss ≡ 0 → in_stacks q ss ≡ 0
 fewer_items p q h [] z = refl
 fewer_items p q h (s ∷ ss) z = let a : count q s.items ≡ 0 = fewer p q h s.items (omega (arith, z)) in let b = fewer_items p q h ss (omega (arith, z)) in omega (arith, a, b)

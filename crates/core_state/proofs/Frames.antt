@@ -5,12 +5,12 @@ use Rattle.graph_model.specs.declared.plan.Strike.{Strike}
 use Rattle.core_state.specs.Words.{Spot, pending, stop, key, descriptor, notify, recovery, posted, turn, spot_of, life_of, standing_life, replacing}
 use Rattle.core_state.specs.Counts.{hit, items, is_at, notifies, suspects_block, is_suspect, is_suspect_for, is_renew, is_renew_at, ended, held, owed, begun, came, noted, facts, is_row, is_seen_life, is_seen_mark, is_seen_closed, is_idle, is_stopped, is_stops, knows_row, waits, waits_at, in_hand, in_wrong_hand, is_created, is_spent, is_closed, is_struck, is_replaced, is_of, struck_by, struck_idly, struck_upto, is_struck_upto, is_version, is_made, is_unmade, is_compute, is_close, is_close_from, is_notify, is_computed, is_written, is_loaded, is_any_struck, is_any_suspect, is_writing}
 use Rattle.core_state.specs.Change.{Core, many}
-use Rattle.core_state.specs.Laws.{SpentOnce, ComputedOnce, LivesNamed, SpentByEdge, CausesShown, Shown, Grounded, AllClosed, BlockStruck}
+use Rattle.core_state.specs.Laws.{IsPlace, SpentOnce, ComputedOnce, LivesNamed, SpentByEdge, CausesShown, Shown, Grounded, AllClosed, BlockStruck}
 use Rattle.core_state.specs.Rows.{HasKey, HasRow, Keys, Empty, Standing, Replacing, LifeOf, Lives, Shows, Lists, Content, Facts}
 use Rattle.core_state.specs.Work.{job_count, Jobs, Computings, RootWork, is_made_early}
 use Rattle.core_state.specs.Blocks.{Holds, Blocks}
 use Rattle.core_state.specs.Records.{Records, Causes, Landed, Strikes}
-use Rattle.core_state.specs.Cover.{covers_self, covers_edge, works, Needs, Waiting, Cover, Activity, Faultless, NoFault, Passed}
+use Rattle.core_state.specs.Cover.{covers_self, covers_edge, works, Needs, Waiting, Cover, Activity, Faultless, NoFault}
 use Rattle.graph_model.specs.declared.record.Hit.{Hit}
 use Rattle.graph_model.specs.declared.record.Hit.TheVariants as hit_of
 use Rattle.core_state.specs.declared.views.Item.{Item}
@@ -49,6 +49,11 @@ SameRecovery s t = (r : ℕ) → t.word (recovery r) ≡ s.word (recovery r)
 
 abbrev pub SamePosted : Core → Core → Type 0
 SamePosted s t = (i : Job) (r : ℕ) → t.word (posted i r) ≡ s.word (posted i r)
+
+-- what `Activity` says of one row
+abbrev pub ActiveAt : Setting → Core → ℕ → ℕ → Type 0
+ActiveAt e s r k = ((j : ℕ) → IsPlace e.graph k j → 0 < many s (is_spent k (life_of (s.word (descriptor r))) j))
+    → (0 < s.total (works k (life_of (s.word (descriptor r)))) + hit (eqb (life_of (s.word (descriptor r))) (s.word (posted Compute r)))) ⊎ AllClosed e.graph e.plan (many s) k (life_of (s.word (descriptor r)))
 
 pub was : (a b : ℕ) → a ≡ b → 0 < a → 0 < b
 was a b e z = omega (arith, e, z)
@@ -210,16 +215,20 @@ module _ (e : Setting) (s t : Core) where
     };
   }
 
-  pub frame_records : SameKeys s t → SameRecovery s t → SameRecords s t → Records e s → Records e t
-  frame_records kw rw' recs i = let x : many s ≡ many t = sym (all_same s t recs) in record {
+  -- as many lives of each key are replaced or being replaced
+  pub records_upto : SameKeys s t → ((r : ℕ) → standing_life (t.word (recovery r)) + replacing (t.word (recovery r)) ≡ standing_life (s.word (recovery r)) + replacing (s.word (recovery r))) → SameRecords s t → Records e s → Records e t
+  records_upto kw lives recs i = let x : many s ≡ many t = sym (all_same s t recs) in record {
     spent = subst (SpentOnce e.graph) x i.spent;
     computed = subst (ComputedOnce e.graph) x i.computed;
     lives = subst (LivesNamed e.graph) x i.lives;
     edges = subst (SpentByEdge e.graph) x i.edges;
     some_life = λ k. recs (is_of k 0) ∙ i.some_life k;
-    replaced = λ r k l it. recs (is_replaced k l) ∙ i.replaced r k l (had kw r k it) ∙ ap (λ n. hit (nat_lt 0 l && nat_lt l (standing_life n + replacing n))) (sym (rw' r));
+    replaced = λ r k l it. recs (is_replaced k l) ∙ i.replaced r k l (had kw r k it) ∙ ap (λ n. hit (nat_lt 0 l && nat_lt l n)) (sym (lives r));
     names_own = recs (Rattle.core_state.specs.Counts.is_misstruck e.graph) ∙ i.names_own;
   }
+
+  pub frame_records : SameKeys s t → SameRecovery s t → SameRecords s t → Records e s → Records e t
+  frame_records kw rw' recs i = records_upto kw (λ r. ap (λ n. standing_life n + replacing n) (rw' r)) recs i
 
   pub frame_causes : SameItems s t → SameRecords s t → Causes e s → Causes e t
   frame_causes its recs i = let x : many s ≡ many t = sym (all_same s t recs) in record {
@@ -262,22 +271,30 @@ module _ (e : Setting) (s t : Core) where
         (i.mark r k l w (had kw r k it) (was (t.total (facts (is_seen_mark k w l))) (s.total (facts (is_seen_mark k w l))) (marks k l w) z));
   }
 
-  same_needs : SameKeys s t → SameDescriptors s t → SameRecovery s t → SameRecords s t → (r k l j : ℕ) → Needs e t r k l j → Needs e s r k l j
-  same_needs kw dw rw' recs r k l j i = record {
+  -- a place of a row whose descriptor and recovery word stay
+  pub needs_at : SameKeys s t → SameRecords s t → (r k l j : ℕ) → t.word (descriptor r) ≡ s.word (descriptor r) → t.word (recovery r) ≡ s.word (recovery r) → Needs e t r k l j → Needs e s r k l j
+  needs_at kw recs r k l j dw rw' i = record {
     has_key = had kw r k i.has_key;
-    stands = ap replacing (sym (rw' r)) ∙ i.stands;
-    life_stands = ap standing_life (sym (rw' r)) ∙ i.life_stands;
-    life_shown = ap life_of (sym (dw r)) ∙ i.life_shown;
+    stands = ap replacing (sym rw') ∙ i.stands;
+    life_stands = ap standing_life (sym rw') ∙ i.life_stands;
+    life_shown = ap life_of (sym dw) ∙ i.life_shown;
     unspent = sym (recs (is_spent k l j)) ∙ i.unspent;
   }
 
-  same_waiting : SameKeys s t → SameNotify s t → SameRecords s t → SameWaits s t → (p q : ℕ) → Waiting e s p q → Waiting e t p q
-  same_waiting kw nw recs ws p q i = record {
+  same_needs : SameKeys s t → SameDescriptors s t → SameRecovery s t → SameRecords s t → (r k l j : ℕ) → Needs e t r k l j → Needs e s r k l j
+  same_needs kw dw rw' recs r k l j i = needs_at kw recs r k l j (dw r) (rw' r) i
+
+  -- a port that waits at a word that stays
+  pub waiting_at : SameKeys s t → SameRecords s t → SameWaits s t → (p q : ℕ) (i : Waiting e s p q) → t.word (notify i.row (q / 40)) ≡ s.word (notify i.row (q / 40)) → Waiting e t p q
+  waiting_at kw recs ws p q i nw = record {
     row = i.row;
     has_key = has kw i.row p i.has_key;
-    waits_there = subst (λ n. 0 < t.total (waits p (life_of n) q)) (sym (nw i.row (q / 40))) (let n : ℕ = s.word (notify i.row (q / 40)) in was (s.total (waits p (life_of n) q)) (t.total (waits p (life_of n) q)) (sym (ws p (life_of n) q)) i.waits_there);
-    open_word = subst (λ n. many t (is_closed p (life_of n) (q / 40)) ≡ 0) (sym (nw i.row (q / 40))) (let n : ℕ = s.word (notify i.row (q / 40)) in recs (is_closed p (life_of n) (q / 40)) ∙ i.open_word);
+    waits_there = subst (λ n. 0 < t.total (waits p (life_of n) q)) (sym nw) (let n : ℕ = s.word (notify i.row (q / 40)) in was (s.total (waits p (life_of n) q)) (t.total (waits p (life_of n) q)) (sym (ws p (life_of n) q)) i.waits_there);
+    open_word = subst (λ n. many t (is_closed p (life_of n) (q / 40)) ≡ 0) (sym nw) (let n : ℕ = s.word (notify i.row (q / 40)) in recs (is_closed p (life_of n) (q / 40)) ∙ i.open_word);
   }
+
+  same_waiting : SameKeys s t → SameNotify s t → SameRecords s t → SameWaits s t → (p q : ℕ) → Waiting e s p q → Waiting e t p q
+  same_waiting kw nw recs ws p q i = waiting_at kw recs ws p q i (nw i.row (q / 40))
 
   -- the counts that cover a place may rise
   pub frame_cover : SameKeys s t → SameDescriptors s t → SameNotify s t → SameRecovery s t → SamePosted s t → SameRecords s t → SameWaits s t
@@ -288,12 +305,14 @@ module _ (e : Setting) (s t : Core) where
     self_place = λ r k l needs. let a = selfs k l 40 in let d = ap (λ n. hit (eqb l n)) (pw Explore r) in let z = i.self_place r k l (same_needs kw dw rw' recs r k l 40 needs) in omega (arith, z, a, d);
   }
 
+  -- a row whose descriptor stays, where no work on the shown life goes
+  pub activity_at : SamePosted s t → SameRecords s t → (r k : ℕ) → t.word (descriptor r) ≡ s.word (descriptor r) → s.total (works k (life_of (s.word (descriptor r)))) ≤ t.total (works k (life_of (s.word (descriptor r)))) → ActiveAt e s r k → ActiveAt e t r k
+  activity_at pw recs r k dw rises i all = subst (λ n. (0 < t.total (works k (life_of n)) + hit (eqb (life_of n) (t.word (posted Compute r)))) ⊎ AllClosed e.graph e.plan (many t) k (life_of n)) (sym dw) (let l : ℕ = life_of (s.word (descriptor r)) in
+      ⊎_elim (λ z. inl (let d = ap (λ n. hit (eqb l n)) (pw Compute r) in omega (arith, z, rises, d))) (λ z. inr (subst (λ m. AllClosed e.graph e.plan m k l) (sym (all_same s t recs)) z))
+      (i (λ j place. was (many t (is_spent k l j)) (many s (is_spent k l j)) (recs (is_spent k l j)) (subst (λ n. 0 < many t (is_spent k (life_of n) j)) dw (all j place)))))
+
   pub frame_activity : SameKeys s t → SameDescriptors s t → SamePosted s t → SameRecords s t → ((k l : ℕ) → s.total (works k l) ≤ t.total (works k l)) → Activity e s → Activity e t
-  frame_activity kw dw pw recs rises i = record {
-    each = λ r k it all. subst (λ n. (0 < t.total (works k (life_of n)) + hit (eqb (life_of n) (t.word (posted Compute r)))) ⊎ AllClosed e.graph e.plan (many t) k (life_of n)) (sym (dw r)) (let l : ℕ = life_of (s.word (descriptor r)) in
-        ⊎_elim (λ z. inl (let a = rises k l in let d = ap (λ n. hit (eqb l n)) (pw Compute r) in omega (arith, z, a, d))) (λ z. inr (subst (λ m. AllClosed e.graph e.plan m k l) (sym (all_same s t recs)) z))
-        (i.each r k (had kw r k it) (λ j place. was (many t (is_spent k l j)) (many s (is_spent k l j)) (recs (is_spent k l j)) (subst (λ n. 0 < many t (is_spent k (life_of n) j)) (dw r) (all j place)))));
-  }
+  frame_activity kw dw pw recs rises i = record { each = λ r k it all. activity_at pw recs r k (dw r) (rises k (life_of (s.word (descriptor r)))) (i.each r k (had kw r k it)) all }
 
   pub frame_no_fault : SameKeys s t → SameRecovery s t → SameItems s t → SameRecords s t → ((b : ℕ) → t.block b ≡ s.block b) → NoFault e s → NoFault e t
   frame_no_fault kw rw' its recs blocks i = record {
@@ -302,15 +321,5 @@ module _ (e : Setting) (s t : Core) where
       none_suspected = its is_any_suspect ∙ old.none_suspected;
       newest = λ b u low some. subst (λ x. u ≤ x.tag) (sym (blocks b)) (old.newest b u low (was (many t (is_version b u)) (many s (is_version b u)) (recs (is_version b u)) some));
       readers_first = λ b u k some wrote reads not_root other. was (many s (is_writing k)) (many t (is_writing k)) (sym (recs (is_writing k))) (old.readers_first b u k some (was (many t (is_version b (u + 1))) (many s (is_version b (u + 1))) (recs (is_version b (u + 1))) wrote) reads not_root other);
-    };
-  }
-
-  pub frame_passed : SameItems s t → SameRecords s t → ((n : ℕ) → t.total (struck_by n) ≡ s.total (struck_by n)) → Passed e s → Passed e t
-  frame_passed its recs by i = record {
-    each = λ n low word. let old = i.each n low word in let x : Strike = e.plan.strike n in let made : 0 < s.total (struck_by n) → 0 < t.total (struck_by n) = was (s.total (struck_by n)) (t.total (struck_by n)) (sym (by n)) in record {
-      explored = λ at one z. made (old.explored at one (was (many t (is_spent x.key.0 1 40)) (many s (is_spent x.key.0 1 40)) (recs (is_spent x.key.0 1 40)) z));
-      ready = λ at z. made (old.ready at (let a = recs (is_computed x.key.0 x.life) in let b = its (is_loaded x.key.0 x.life) in omega (arith, a, b, z)));
-      computed = λ at z. made (old.computed at (was (many t (is_closed x.key.0 x.life 0)) (many s (is_closed x.key.0 x.life 0)) (recs (is_closed x.key.0 x.life 0)) z));
-      notified = λ at all. ⊎_elim (λ z. inl (was (s.total (items (is_close x.key.0 x.life))) (t.total (items (is_close x.key.0 x.life))) (sym (its (is_close x.key.0 x.life))) z)) (λ z. inr (made z)) (old.notified at (subst (λ m. AllClosed e.graph e.plan m x.key.0 x.life) (all_same s t recs) all));
     };
   }

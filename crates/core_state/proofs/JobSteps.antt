@@ -21,7 +21,8 @@ use Rattle.core_state.specs.declared.views.Word.{Word}
 use Rattle.core_state.specs.declared.views.Word.TheVariants as word
 use Rattle.core_state.specs.declared.views.View.{View}
 use Rattle.core_state.proofs.Frames.{SameRecords, keys_stay, frame_content, frame_blocks, frame_records}
-use Rattle.core_state.proofs.Wide.{wide_lives, wide_jobs, wide_computings, wide_root, wide_causes, wide_strikes, wide_facts, wide_cover, wide_activity, wide_no_fault, wide_passed}
+use Rattle.core_state.proofs.PassingPoints.{PassesNone, none_passed}
+use Rattle.core_state.proofs.Wide.{wide_lives, wide_jobs, wide_computings, wide_root, wide_causes, wide_strikes, wide_facts, wide_cover, wide_activity, wide_no_fault}
 use Rattle.core_state.proofs.JobWords.{brought, brought_never, and_false, posted_change, word_moves}
 
 -- a test that no owed job passes and no item with which a stack comes
@@ -48,7 +49,7 @@ pub record JobView (i : Job) (k n left : ℕ) (v w : View) : Type 0 where
   pub credits : stack_count w + spare w + min 1 left ≡ stack_count v + spare v + min 1 n
   pub few : too_many w ≤ too_many v
 
-idle_falls : (a b c : ℕ) → a ≤ b → cond (eqb b 0) c 0 ≤ cond (eqb a 0) c 0
+pub idle_falls : (a b c : ℕ) → a ≤ b → cond (eqb b 0) c 0 ≤ cond (eqb a 0) c 0
 idle_falls a b c low = dite (ℕ_discrete b 0)
     (λ z. let q : a ≡ 0 = omega (arith, z, low) in subst (λ x. cond (eqb b 0) c 0 ≤ cond (eqb x 0) c 0) (sym q) (subst (λ x. cond (eqb x 0) c 0 ≤ c) (sym z) (omega arith)))
     (λ ne. subst (λ (x : Bool). cond x c 0 ≤ cond (eqb a 0) c 0) (sym (ne_eqb b 0 ne)) (omega arith))
@@ -176,7 +177,15 @@ module _ (e : Setting) (s t : Core) (i : Job) (r k n left : ℕ) (v w : View) (c
     no_fault = wide_no_fault e s t keys_same (λ x. wd (recovery x) (λ q. cc)) more (λ unstruck old. it is_any_suspect record { owe = λ a l j. refl; explore = λ a l. refl; compute = λ a l. refl } ∙ old.none_suspected) (λ b y. recs (Rattle.core_state.specs.Counts.is_version b y)) (λ b. c.blocks b (λ q. cc)) inv.no_fault;
   }
 
+  pub job_none : PassesNone v w
+  job_none = record {
+    struck = λ m. let a = ap (count (eqb m)) u.strikes_are in omega (arith, a);
+    spent = λ m. ap (count (Rattle.core_state.specs.Counts.is_spent m 1 40)) u.records_are;
+    computed = λ m l. ap (count (Rattle.core_state.specs.Counts.is_computed m l)) u.records_are;
+    closed = λ m l y. ap (count (Rattle.core_state.specs.Counts.is_closed m l y)) u.records_are;
+    loads = λ m l. let a = u.its (is_loaded m l) record { owe = λ a l j. refl; explore = λ a l. refl; compute = λ a d. and_false (Rattle.core_state.specs.Counts.two m l a d) } in omega (arith, a);
+    closes = λ m l. let a = u.its (is_close m l) record { owe = λ a l j. refl; explore = λ a l. refl; compute = λ a l. refl } in omega (arith, a);
+  }
+
   pub job_passed : Passed e s → Passed e t
-  job_passed = wide_passed e s t (λ m z. let a = recs (Rattle.core_state.specs.Counts.is_spent m 1 40) in omega (arith, a, z)) (λ m l. recs (Rattle.core_state.specs.Counts.is_computed m l)) (λ m l y. recs (Rattle.core_state.specs.Counts.is_closed m l y))
-      (λ m l. it (is_loaded m l) record { owe = λ a l j. refl; explore = λ a l. refl; compute = λ a d. and_false (Rattle.core_state.specs.Counts.two m l a d) }) (λ m l. it (is_close m l) record { owe = λ a l j. refl; explore = λ a l. refl; compute = λ a l. refl })
-      (λ x. eq (struck_by x) (ap (λ y. count (eqb x) y) u.strikes_are))
+  job_passed = none_passed e s t v w c.sums job_none

@@ -5,7 +5,7 @@ use native.Mathlib.Decide.{ℕ_discrete, dec_lt}
 use Rattle.std.proofs.lemmas.Bool.Decides.{eqb_tells}
 use Rattle.std.proofs.lemmas.Bool.{le-ltb}
 use Rattle.core_state.specs.Graph.{Setting}
-use Rattle.core_state.specs.Words.{Spot, descriptor, notify, recovery, turn, spot_of, life_of, life_shown, mark_shown, standing_life, replacing}
+use Rattle.core_state.specs.Words.{Spot, descriptor, notify, recovery, turn, spot_of, life_of, life_shown, mark_shown, standing_life}
 use Rattle.core_state.specs.Counts.{hit, bump, two, count, items, in_stacks, is_at, is_suspect, is_seen_life, is_seen_mark, knows_row, explores, owed, is_renew_of, came_with, is_made_any}
 use Rattle.core_state.specs.Change.{Core, Change}
 use Rattle.core_state.specs.Rows.{HasKey}
@@ -27,16 +27,17 @@ use Rattle.core_state.proofs.Looks.{LookView, look_keeps}
 use Rattle.core_state.proofs.Made.{push_came, push_length}
 use Rattle.core_state.proofs.Spent.{seen_other, seen_life, seen_mark}
 use Rattle.core_state.proofs.Stirred.{seen_life_at, seen_mark_at}
+use Rattle.core_state.proofs.Suspecting.{descriptor_high}
 
 -- a life that was seen was seen before, or is that of the word
-life_any : (y : Word) (m l : ℕ) (z : Word) (k n : ℕ) (xs : List Known) → (count (is_seen_life m z l) (seen k y n xs) ≡ count (is_seen_life m z l) xs) ⊎ ((m ≡ k) × (l ≡ life_shown y n) × (z ≡ y))
+pub life_any : (y : Word) (m l : ℕ) (z : Word) (k n : ℕ) (xs : List Known) → (count (is_seen_life m z l) (seen k y n xs) ≡ count (is_seen_life m z l) xs) ⊎ ((m ≡ k) × (l ≡ life_shown y n) × (z ≡ y))
 life_any word.Descriptor m l z k n xs = seen_life m l z k n xs
 life_any (word.Notify d) m l z k n xs = seen_life_at m l z k d n xs
 life_any word.Recovery m l word.Recovery k n xs = ⊎_elim (λ q. inl (ap (λ (b : Bool). bump (b && true) (count (is_seen_life m word.Recovery l) xs)) q)) (λ q. inr (q.1, q.2, refl)) (two_tells m l k (standing_life n))
 life_any word.Recovery m l word.Descriptor k n xs = inl (ap (λ (b : Bool). bump b (count (is_seen_life m word.Descriptor l) xs)) (and_false (two m l k (standing_life n))))
 life_any word.Recovery m l (word.Notify d) k n xs = inl (ap (λ (b : Bool). bump b (count (is_seen_life m (word.Notify d) l) xs)) (and_false (two m l k (standing_life n))))
 
-mark_any : (y : Word) (m l : ℕ) (z : Word) (k n : ℕ) (xs : List Known) → (count (is_seen_mark m z l) (seen k y n xs) ≡ count (is_seen_mark m z l) xs) ⊎ ((m ≡ k) × (l ≡ life_shown y n) × (z ≡ y) × (mark_shown y n ≡ 1))
+pub mark_any : (y : Word) (m l : ℕ) (z : Word) (k n : ℕ) (xs : List Known) → (count (is_seen_mark m z l) (seen k y n xs) ≡ count (is_seen_mark m z l) xs) ⊎ ((m ≡ k) × (l ≡ life_shown y n) × (z ≡ y) × (mark_shown y n ≡ 1))
 mark_any word.Descriptor m l z k n xs = seen_mark m l z k n xs
 mark_any (word.Notify d) m l z k n xs = seen_mark_at m l z k d n xs
 mark_any word.Recovery m l z k n xs = inl refl
@@ -63,7 +64,7 @@ saw_view e s r k n y v = record {
   ends = λ i m l. inl refl;
   ends_up = λ i m l. omega arith;
   few = omega arith;
-  wrong = λ b m. omega arith;
+  wrong = λ b. omega arith;
   at = λ m. omega arith;
   renews = λ m. refl;
   renew_ats = λ m l d. refl;
@@ -75,7 +76,7 @@ saw_view e s r k n y v = record {
   closes_from = λ m l d. omega arith;
   tells_word = λ m l d. omega arith;
   tells = λ p q. omega arith;
-  blames = λ b d. omega arith;
+  blames = λ b d. inl (omega arith);
   suspected = λ m l. inl (omega arith);
   root_clear = λ l. omega arith;
   caused = λ m l d. inl (omega arith);
@@ -97,7 +98,7 @@ module _ (e : Setting) (s t : Core) (r k n : ℕ) (y : Word) (v w : View) (can :
   all_words tells a = ⊎_elim (λ q. ap t.word q ∙ c.left_is ∙ sym c.found_is ∙ sym (ap s.word q)) (λ ne. c.others a ne) (tells a)
 
 -- the words of a row are told apart by their names
-same_spot : (r : ℕ) (y : Word) (a : Spot) → (a ≡ spot_of r y) ⊎ (a ≢ spot_of r y)
+pub same_spot : (r : ℕ) (y : Word) (a : Spot) → (a ≡ spot_of r y) ⊎ (a ≢ spot_of r y)
 same_spot r word.Descriptor (descriptor z) = dite (ℕ_discrete z r) (λ q. inl (ap descriptor q)) (λ ne. inr (λ q. ne cc))
 same_spot r word.Recovery (recovery z) = dite (ℕ_discrete z r) (λ q. inl (ap recovery q)) (λ ne. inr (λ q. ne cc))
 same_spot r (word.Notify d) (notify z x) = dite (ℕ_discrete z r) (λ q. dite (ℕ_discrete x d) (λ p. inl (ap (λ o. notify o x) q ∙ ap (notify r) p)) (λ ne. inr (λ p. ne cc))) (λ ne. inr (λ q. ne cc))
@@ -105,7 +106,7 @@ same_spot r word.Descriptor a = inr (λ q. cc)
 same_spot r word.Recovery a = inr (λ q. cc)
 same_spot r (word.Notify d) a = inr (λ q. cc)
 
-no_turn : (r : ℕ) (y : Word) (b : ℕ) → turn b ≢ spot_of r y
+pub no_turn : (r : ℕ) (y : Word) (b : ℕ) → turn b ≢ spot_of r y
 no_turn r word.Descriptor b = λ q. cc
 no_turn r (word.Notify d) b = λ q. cc
 no_turn r word.Recovery b = λ q. cc
@@ -167,7 +168,7 @@ module _ (k n : ℕ) where
   cleared_kept m l stands (item.Reenter a d ps ∷ xs) = refl
   cleared_kept m l stands (item.Owe a j d ∷ xs) = refl
 
-  on_same : (q : Item → Bool) → ((a l : ℕ) (d : Cause) (b : Bool) → q (item.Suspect a l d b) ≡ false) → (ss : List Stack) → in_stacks q (on_top (cleared_items k n) ss) ≡ in_stacks q ss
+  pub on_same : (q : Item → Bool) → ((a l : ℕ) (d : Cause) (b : Bool) → q (item.Suspect a l d b) ≡ false) → (ss : List Stack) → in_stacks q (on_top (cleared_items k n) ss) ≡ in_stacks q ss
   on_same q none [] = refl
   on_same q none (u ∷ ss) = ap (λ x. x + in_stacks q ss) (cleared_same q none u.items)
 
@@ -179,7 +180,7 @@ module _ (k n : ℕ) where
   on_kept m l stands [] = refl
   on_kept m l stands (u ∷ ss) = ap (λ x. x + in_stacks (is_suspect m l) ss) (cleared_kept m l stands u.items)
 
-suspect_carries : (i : Rattle.core_state.specs.declared.job.Job.Job) (m l a b : ℕ) (d : Cause) (f : Bool) → Rattle.core_state.specs.Counts.carries i m l (item.Suspect a b d f) ≡ false
+pub suspect_carries : (i : Rattle.core_state.specs.declared.job.Job.Job) (m l a b : ℕ) (d : Cause) (f : Bool) → Rattle.core_state.specs.Counts.carries i m l (item.Suspect a b d f) ≡ false
 suspect_carries Rattle.core_state.specs.declared.job.Job.TheVariants.Explore m l a b d f = refl
 suspect_carries Rattle.core_state.specs.declared.job.Job.TheVariants.Compute m l a b d f = refl
 
@@ -189,11 +190,6 @@ module _ (e : Setting) (s t : Core) (r k n : ℕ) (v : View) (can : KnowsRow e v
 
   here : (z m : ℕ) → HasKey e s z m → m ≡ k → z ≡ r
   here = at_row e s t r k n word.Recovery v (after_load_recovery k n v) can c inv
-
-  -- the descriptor shows no life below the one that stands
-  shown_stands : standing_life n ≤ life_of (s.word (descriptor r))
-  shown_stands = let o = inv.lives.each r k my_row in let z : ℕ = s.word (recovery r) in let f = ap standing_life c.found_is in dite (ℕ_discrete (replacing z) 0) (λ q. let a = (o.standing q).descriptor_life in omega (arith, a, f))
-      (λ ne. let st = o.being_replaced (omega (arith, ne)) in dite (ℕ_discrete st.done (e.graph.notify_words k + 1)) (λ q. let a = st.descriptor_after q in omega (arith, a, f)) (λ q. let b = st.at_most in let a = st.descriptor_before (omega (arith, b, q)) in omega (arith, a, f)))
 
   none : (q : Item → Bool) → ((a l : ℕ) (d : Cause) (b : Bool) → q (item.Suspect a l d b) ≡ false) → items q (after_load_recovery k n v) ≡ items q v
   none q f = on_same k n q f v.stacks
@@ -222,7 +218,7 @@ module _ (e : Setting) (s t : Core) (r k n : ℕ) (v : View) (can : KnowsRow e v
     ends = λ i m l. inl refl;
     ends_up = λ i m l. omega arith;
     few = let a = none Rattle.core_state.specs.Counts.is_owe (λ a b d f. refl) in omega (arith, a);
-    wrong = λ b m. let a = ap (λ x. cond (eqb x 0) (Rattle.core_state.specs.Counts.in_hand b v) 0) (none (is_made_any m) (λ a b d f. refl)) in omega (arith, a);
+    wrong = λ b. let a = ap (λ x. cond (eqb x 0) (Rattle.core_state.specs.Counts.in_hand b v) 0) (none (is_made_any e.graph.root) (λ a b d f. refl)) in omega (arith, a);
     at = λ m. let a = less (is_at m) in omega (arith, a);
     renews = λ m. none (Rattle.core_state.specs.Counts.is_renew m) (λ a b d f. refl);
     renew_ats = λ m l d. none (Rattle.core_state.specs.Counts.is_renew_at m l d) (λ a b d f. refl);
@@ -234,7 +230,7 @@ module _ (e : Setting) (s t : Core) (r k n : ℕ) (v : View) (can : KnowsRow e v
     closes_from = λ m l d. less (Rattle.core_state.specs.Counts.is_close_from m l d);
     tells_word = λ m l d. less (Rattle.core_state.specs.Counts.is_notify m l d);
     tells = λ p q. less (Rattle.core_state.specs.Counts.notifies p q);
-    blames = λ b d. less (Rattle.core_state.specs.Counts.suspects_block b d);
+    blames = λ b d. inl (less (Rattle.core_state.specs.Counts.suspects_block b d));
     suspected = λ m l. inl (less (is_suspect m l));
     root_clear = λ l. less (is_suspect e.graph.root l);
     caused = λ m l d. inl (less (Rattle.core_state.specs.Counts.is_suspect_for m l d));
@@ -245,7 +241,7 @@ module _ (e : Setting) (s t : Core) (r k n : ℕ) (v : View) (can : KnowsRow e v
         let d = none (Rattle.core_state.specs.Counts.reenters (e.graph.pred m i).task (e.graph.pred m i).port) (λ a b d f. refl) in omega (arith, a, b, d));
     working = λ z m old. let l : ℕ = life_of (s.word (descriptor z)) in let a = none (Rattle.core_state.specs.Counts.is_owed Rattle.core_state.specs.declared.job.Job.TheVariants.Compute m l) (λ a b d f. refl) in
         let b = none (Rattle.core_state.specs.Counts.carries Rattle.core_state.specs.declared.job.Job.TheVariants.Compute m l) (λ a b d f. refl) in let f = none (is_renew_of m l) (λ a b d f. refl) in
-        let d = on_kept k n m l (λ q. let f = ap (λ o. life_of (s.word (descriptor o))) (here z m old q) in let g = shown_stands in omega (arith, f, g)) v.stacks in omega (arith, a, b, d, f);
+        let d = on_kept k n m l (λ q. let f = ap (λ o. life_of (s.word (descriptor o))) (here z m old q) in let g = descriptor_high e s r k (s.word (recovery r)) (inv.lives.each r k my_row) in let h = ap standing_life c.found_is in omega (arith, f, g, h)) v.stacks in omega (arith, a, b, d, f);
   }
 
   pub keeps_load_recovery : Invariant e t

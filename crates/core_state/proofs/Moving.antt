@@ -115,7 +115,7 @@ moved_begun i a m g v = of v.stacks
     of (s ∷ ss) = let a = begun_list i a m g s.items v.ended in omega (arith, a)
 
 -- the topmost item x and those below become the items ys
-swapped : (p : Item → Bool) (f : List Item → List Item) (ss rest : List Stack) (u : Stack) (x : Item) (xs ys : List Item) → ss ≡ u ∷ rest → u.items ≡ x ∷ xs → f (x ∷ xs) ≡ ys
+pub swapped : (p : Item → Bool) (f : List Item → List Item) (ss rest : List Stack) (u : Stack) (x : Item) (xs ys : List Item) → ss ≡ u ∷ rest → u.items ≡ x ∷ xs → f (x ∷ xs) ≡ ys
     → in_stacks p (on_top f ss) + (hit (p x) + count p xs) ≡ in_stacks p ss + count p ys
 swapped p f ss rest u x xs ys is has gives = rw (is, has) (let a = bump_is (p x) (count p xs) in let b = ap (count p) gives in omega (arith, a, b))
 
@@ -139,7 +139,7 @@ last_over : (g : Graph) (a b i k l : ℕ) → IsPlace g a i → (hit (two a b k 
 last_over g a b i k l place = ⊎_elim (λ z. inl (ap (λ (y : Bool). hit (y && nat_le (g.places k) i)) z))
     (λ z. ⊎_elim (λ low. inl (ap (λ (y : Bool). hit (two a b k l && y)) (le_above i (g.places k) (subst (λ y. i < g.places y) z.1 low)) ∙ ap hit (and_nothing (two a b k l)))) (λ q. inr (z.1, q)) place) (two_tells a b k l)
 
-port_over : (p q x : ℕ) (qs : List ℕ) (y : ℕ) → (hit (eqb p y && is_in q (x ∷ qs)) ≤ hit (eqb p y && is_in q qs)) ⊎ ((p ≡ y) × (q ≡ x))
+pub port_over : (p q x : ℕ) (qs : List ℕ) (y : ℕ) → (hit (eqb p y && is_in q (x ∷ qs)) ≤ hit (eqb p y && is_in q qs)) ⊎ ((p ≡ y) × (q ≡ x))
 port_over p q x qs y = ⊎_elim
     (λ z. ⊎_elim (λ f. inr (z.1, f.1)) (λ f. inl (let h : hit (eqb p y && is_in q (x ∷ qs)) ≡ hit (eqb p y && is_in q qs) = ap (λ (b : Bool). hit (eqb p y && cond b true (is_in q qs))) f.0 in omega (arith, h))) (eqb_tells q x))
     (λ z. inl (let h : hit (eqb p y && is_in q (x ∷ qs)) ≡ 0 = ap (λ (b : Bool). hit (b && is_in q (x ∷ qs))) z.0 in omega (arith, h))) (eqb_tells p y)

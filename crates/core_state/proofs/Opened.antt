@@ -11,6 +11,7 @@ use Rattle.core_state.specs.Rows.{HasKey}
 use Rattle.core_state.specs.Work.{posted_count, Jobs, job_count, Work, is_made_early}
 use Rattle.core_state.specs.Blocks.{Blocks}
 use Rattle.core_state.specs.Records.{Records, Causes, Strikes}
+use Rattle.core_state.specs.Prevented.{Prevented}
 use Rattle.core_state.specs.Cover.{Needs, Cover, Activity, NoFault, Passed, covers_self}
 use Rattle.core_state.specs.Invariant.{Invariant, Opening}
 use Rattle.core_state.specs.declared.job.Job.{Job}
@@ -230,5 +231,16 @@ module _ (e : Setting) (s : Core) (fit : Sound e) (o : Opening e s) where
           (let a = none (noted (is_computed (e.plan.strike n).key.0 (e.plan.strike n).life)) (λ p. refl) refl in let b = none (items (is_loaded (e.plan.strike n).key.0 (e.plan.strike n).life)) (λ p. refl) refl in omega (arith, a, b)) z;
       computed = λ at z. nothing (many s (is_closed (e.plan.strike n).key.0 (e.plan.strike n).life 0)) (none (noted (is_closed (e.plan.strike n).key.0 (e.plan.strike n).life 0)) (λ p. refl) refl) z;
       notified = λ at all. nothing (many s (is_closed (e.plan.strike n).key.0 (e.plan.strike n).life 0)) (none (noted (is_closed (e.plan.strike n).key.0 (e.plan.strike n).life 0)) (λ p. refl) refl) (all 0 (fit.lawful.some_word (e.plan.strike n).key.0));
+    };
+  }
+
+  pub opening_prevented : Prevented e s
+  opening_prevented = record {
+    each = λ n low. record {
+      explored_descriptor = λ at on one. none (noted (is_spent (e.plan.strike n).key.0 1 40)) (λ p. refl) refl;
+      explored_notify = λ w at on one. none (noted (is_closed (e.plan.strike n).key.0 1 w)) (λ p. refl) refl;
+      ready_descriptor = λ at on. let a = none (noted (is_computed (e.plan.strike n).key.0 (e.plan.strike n).life)) (λ p. refl) refl in let b = none (items (is_loaded (e.plan.strike n).key.0 (e.plan.strike n).life)) (λ p. refl) refl in omega (arith, a, b);
+      ready_notify = λ w at on. none (noted (is_closed (e.plan.strike n).key.0 (e.plan.strike n).life w)) (λ p. refl) refl;
+      computed_notify = λ w at on. none (noted (is_closed (e.plan.strike n).key.0 (e.plan.strike n).life w)) (λ p. refl) refl;
     };
   }

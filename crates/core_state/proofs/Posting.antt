@@ -22,7 +22,8 @@ use Rattle.core_state.specs.declared.views.View.{View}
 use Rattle.core_state.proofs.Cases.{two_here}
 use Rattle.core_state.proofs.Made.{push_came, push_length}
 use Rattle.core_state.proofs.JobWords.{job_hit, brought, first_item, arrived_items, arrived_aside, arrived_came, arrived_length, popped_items, popped_aside}
-use Rattle.core_state.proofs.JobSteps.{Aside, JobView, job_keeps, job_passed}
+use Rattle.core_state.proofs.PassingPoints.{PassesNone}
+use Rattle.core_state.proofs.JobSteps.{Aside, JobView, job_keeps, job_none, job_passed}
 
 first_aside : (p : Item → Bool) → Aside p → (i : Job) (k n : ℕ) → p (first_item i k n) ≡ false
 first_aside p q Explore k n = q.explore k n
@@ -137,6 +138,10 @@ module _ (e : Setting) (s t : Core) (r : ℕ) (i : Job) (k n : ℕ) (v : View) w
   pub take_passed : KnowsRow e v r k → Change s t (posted i r) n 0 v (after_take i k n v) → Invariant e s → Passed e s → Passed e t
   take_passed can c inv = job_passed e s t i r k n 0 v (after_take i k n v) c (row_is can c.within inv) (take_view i k n v) inv
 
+  -- a computing that comes is not loaded
+  pub take_none : KnowsRow e v r k → Change s t (posted i r) n 0 v (after_take i k n v) → Invariant e s → PassesNone v (after_take i k n v)
+  take_none can c inv = job_none e s t i r k n 0 v (after_take i k n v) c (row_is can c.within inv) (take_view i k n v) inv
+
   module _ (l : ℕ) (can : CanPost e v r i k l) (c : Change s t (posted i r) n l v (after_post i k n v)) (inv : Invariant e s) where
     owes_it : 0 < owed i k l v
     owes_it = let a = popped_items (is_owed i k l) v.stacks can.at_work.stack (item.Owe k i l) can.at_work.below can.at_work.others can.at_work.stacks_are can.at_work.items_are in let b = same_self i in omega (arith, a, b)
@@ -157,3 +162,6 @@ module _ (e : Setting) (s t : Core) (r : ℕ) (i : Job) (k n : ℕ) (v : View) w
 
     pub post_passed : Passed e s → Passed e t
     post_passed = job_passed e s t i r k n l v (after_post i k n v) c (row_is can.row c.within inv) left_view inv
+
+    pub post_none : PassesNone v (after_post i k n v)
+    post_none = job_none e s t i r k n l v (after_post i k n v) c (row_is can.row c.within inv) left_view inv

@@ -1,6 +1,6 @@
 -- Registering a port keeps every part.
 use Rattle.std.proofs.Common.{◌≡◌, ◌⊎◌, ℕ, ◌+◌, ◌*◌, ◌/◌, ◌%◌, ◌^◌, ◌≤◌, ◌<◌, Bool, true, false, cond, ◌&&◌, eqb, ne_eqb, List, ◌∷◌, min, bit_or, ⊎_elim, inl, inr, arith, sym, ap, refl, ◌∙◌, subst}
-use Rattle.core_state.specs.Counts.{hit, three, two, count, is_in, items, is_at, is_owed, is_owe, carries, explores, is_unmade, is_compute, is_made, is_made_any, is_close, is_close_from, is_notify, is_renew, is_renew_at, is_renew_of, is_suspect, is_suspect_for, is_any_suspect, suspects_block, notifies, reenters, owed, held, ended, is_ended, begun, came, noted, facts, is_row, is_idle, is_stopped, is_stops, is_seen_life, is_seen_mark, is_seen_closed, waits, waits_at, in_hand, is_hand, in_wrong_hand, struck_by, struck_idly, struck_upto, strikes_upto, job_of, stack_count, spare, too_many, is_created, is_spent, is_computed, is_written, is_closed, is_struck, is_any_struck, is_struck_upto, is_version, is_replaced, is_replaced_for}
+use Rattle.core_state.specs.Counts.{hit, three, two, count, is_in, items, is_at, is_owed, is_owe, carries, explores, is_unmade, is_compute, is_made, is_made_any, is_close, is_close_from, is_notify, is_renew, is_renew_at, is_renew_of, is_suspect, is_suspect_for, is_any_suspect, suspects_block, notifies, reenters, owed, held, ended, is_ended, begun, came, noted, facts, is_row, is_idle, is_stopped, is_stops, is_seen_life, is_seen_mark, is_seen_closed, waits, waits_at, in_hand, is_hand, in_wrong_hand, struck_by, struck_idly, struck_upto, strikes_upto, job_of, stack_count, spare, too_many, is_created, is_spent, is_computed, is_written, is_closed, is_struck, is_struck_upto, is_version, is_replaced, is_replaced_for}
 use Rattle.core_state.specs.Laws.{IsPlace, Shown, Grounded}
 use Rattle.core_state.specs.Laws.Shown.{notify as by_notify}
 use Rattle.core_state.specs.declared.answers.Registered.{Registered}
@@ -20,7 +20,6 @@ use Rattle.graph_model.specs.declared.record.Cause.{Cause}
 use Rattle.graph_model.specs.declared.record.Cause.TheVariants as cause
 use Rattle.graph_model.specs.declared.record.Hit.TheVariants as hit_of
 use Rattle.graph_model.specs.declared.record.Record.{Record}
-use Rattle.graph_model.specs.declared.record.Record.TheVariants as record_of
 use Rattle.core_state.specs.declared.job.Job.{Job}
 use Rattle.core_state.specs.declared.job.Job.TheVariants.{Explore, Compute}
 use Rattle.core_state.specs.declared.views.Item.{Item}
@@ -41,6 +40,7 @@ use Rattle.core_state.proofs.Moving.{Still}
 use Rattle.core_state.proofs.Frames.{SameKeys, SameRecords, keys_stay, had, same_shows, frame_blocks, frame_records}
 use Rattle.core_state.proofs.Spent.{and_fails, and_low, seen_other}
 use Rattle.core_state.proofs.Wide.{wide_needs, wide_waiting, wide_lives, wide_jobs, wide_computings, wide_root, wide_causes, wide_strikes, wide_facts, wide_activity, wide_no_fault}
+use Rattle.core_state.proofs.Suspecting.{notify_low, none_struck}
 use Rattle.core_state.proofs.Stirred.{is_waiting, is_marked, IsRegistered, learned, stirred, RegisterView, stirred_still, stirred_falls, stirred_begun, stirred_ends_up, learned_other, seen_life_at, seen_mark_at}
 
 -- a test that neither sees what the item at work has still to do, nor passes a suspect of a notify word
@@ -150,9 +150,7 @@ module _ (e : Setting) (fit : Sound e) (s t : Core) (r k j p q n : ℕ) (x : Reg
   at_row y m old z = inv.keys.one_row y r p (subst (HasKey e s y) z old) has
 
   shown_low : life_of n ≤ standing_life (s.word (recovery r)) + replacing (s.word (recovery r))
-  shown_low = let o = inv.lives.each r p has in let z : ℕ = s.word (recovery r) in let f = ap life_of c.found_is in dite (ℕ_discrete (replacing z) 0)
-      (λ y. let a = (o.standing y).notify_life (q / 40) word_in in omega (arith, a, f, y))
-      (λ ne. let st = o.being_replaced (omega (arith, ne)) in dite (native.Mathlib.Decide.dec_lt (q / 40) st.done) (λ y. let a = st.done_words (q / 40) word_in y in omega (arith, a, f, ne)) (λ y. let a = st.other_words (q / 40) word_in (omega (arith, y)) in omega (arith, a, f, ne)))
+  shown_low = let a = notify_low e s r p (s.word (recovery r)) (inv.lives.each r p has) (q / 40) word_in in let f = ap life_of c.found_is in omega (arith, a, f)
 
   marked : is_marked x ≡ true → mark_of n ≡ 1
   marked = by x is
@@ -377,13 +375,9 @@ module _ (e : Setting) (fit : Sound e) (s t : Core) (r k j p q n : ℕ) (x : Reg
 
   pub register_no_fault : NoFault e t
   register_no_fault = wide_no_fault e s t keys_same (λ y. wd (recovery y) (λ f. cc)) more
-      (λ unstruck old. ⊎_elim (λ z. absurd (let a = lists.struck (marked z) in let b = sums.none (noted is_any_struck) (noted (is_struck p (life_of n) (hit_of.Notify (q / 40)))) (λ o f. Rattle.core_state.proofs.Claiming.fewer is_any_struck (is_struck p (life_of n) (hit_of.Notify (q / 40))) any_struck o.records f) unstruck in omega (arith, a, b)))
+      (λ unstruck old. ⊎_elim (λ z. absurd (let a = lists.struck (marked z) in let b = none_struck s sums unstruck p (life_of n) (hit_of.Notify (q / 40)) in omega (arith, a, b)))
       (λ z. eq (items is_any_suspect) (let a = u.added is_any_suspect in let d : hit (is_marked x && true) ≡ 0 = rw z refl in let f = stirred_still is_any_suspect record { explore = λ a l i. refl; notify = λ a l y q qs. refl; reenter = λ a l q qs. refl } e.graph x v in omega (arith, a, d, f)) ∙ old.none_suspected) (either (is_marked x)))
       (λ b y. recs (is_version b y)) (λ b. c.blocks b (λ f. cc)) inv.no_fault
-    where
-      any_struck : (o : Record) → is_struck p (life_of n) (hit_of.Notify (q / 40)) o ≡ true → is_any_struck o ≡ true
-      any_struck (record_of.Struck a l h) z = refl
-      any_struck o z = absurd cc
 
   pub register_keeps : Invariant e t
   register_keeps = record {

@@ -32,7 +32,7 @@ pub record Unfinished (q : Item → Bool) : Type 0 where
   pub reenter : (k l : ℕ) → q (item.Reenter k l []) ≡ false
   pub close : (k l w : ℕ) → q (item.Close k l w) ≡ false
 
-fails : (g : Graph) (p : Plan) (made : List ℕ) (q : Item → Bool) → Unfinished q → (x : Item) → is_finished g p made x ≡ true → q x ≡ false
+pub fails : (g : Graph) (p : Plan) (made : List ℕ) (q : Item → Bool) → Unfinished q → (x : Item) → is_finished g p made x ≡ true → q x ≡ false
 fails g p made q u (item.Notify k l w []) z = u.notify k l w
 fails g p made q u (item.Notify k l w (y ∷ ys)) z = absurd cc
 fails g p made q u (item.Reenter k l []) z = u.reenter k l

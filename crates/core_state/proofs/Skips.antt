@@ -63,7 +63,7 @@ module _ (g : Graph) (rows r : ℕ) (xs : List Known) where
   skipped_ports p q (item.Renew a l d ∷ zs) = inl refl
   skipped_ports p q (item.Owe a j l ∷ zs) = inl refl
 
-  tops_same : (q : Item → Bool) → ((a l y : ℕ) (ys : List ℕ) → q (item.Reenter a l ys) ≡ q (item.Reenter a l (y ∷ ys))) → (ss : List Stack) → in_stacks q (on_top (skipped_items g rows r xs) ss) ≡ in_stacks q ss
+  pub tops_same : (q : Item → Bool) → ((a l y : ℕ) (ys : List ℕ) → q (item.Reenter a l ys) ≡ q (item.Reenter a l (y ∷ ys))) → (ss : List Stack) → in_stacks q (on_top (skipped_items g rows r xs) ss) ≡ in_stacks q ss
   tops_same q same [] = refl
   tops_same q same (u ∷ ss) = ap (λ o. o + in_stacks q ss) (skipped_same q same u.items)
 
@@ -111,7 +111,7 @@ module _ (e : Setting) (fit : Sound e) (s t : Core) (r : ℕ) (v : View) (can : 
     ends = λ i m l. inl refl;
     ends_up = λ i m l. omega arith;
     few = let a = none Rattle.core_state.specs.Counts.is_owe (λ a b y ys. refl) in omega (arith, a);
-    wrong = λ b m. let a = ap (λ x. cond (eqb x 0) (Rattle.core_state.specs.Counts.in_hand b v) 0) (none (Rattle.core_state.specs.Counts.is_made_any m) (λ a b y ys. refl)) in omega (arith, a);
+    wrong = λ b. let a = ap (λ x. cond (eqb x 0) (Rattle.core_state.specs.Counts.in_hand b v) 0) (none (Rattle.core_state.specs.Counts.is_made_any e.graph.root) (λ a b y ys. refl)) in omega (arith, a);
     at = λ m. let a = none (Rattle.core_state.specs.Counts.is_at m) (λ a b y ys. refl) in omega (arith, a);
     renews = λ m. none (is_renew m) (λ a b y ys. refl);
     renew_ats = λ m l d. none (Rattle.core_state.specs.Counts.is_renew_at m l d) (λ a b y ys. refl);
@@ -123,7 +123,7 @@ module _ (e : Setting) (fit : Sound e) (s t : Core) (r : ℕ) (v : View) (can : 
     closes_from = λ m l d. let a = none (Rattle.core_state.specs.Counts.is_close_from m l d) (λ a b y ys. refl) in omega (arith, a);
     tells_word = λ m l d. let a = none (Rattle.core_state.specs.Counts.is_notify m l d) (λ a b y ys. refl) in omega (arith, a);
     tells = λ p q. let a = none (notifies p q) (λ a b y ys. refl) in omega (arith, a);
-    blames = λ b d. let a = none (Rattle.core_state.specs.Counts.suspects_block b d) (λ a b y ys. refl) in omega (arith, a);
+    blames = λ b d. inl (let a = none (Rattle.core_state.specs.Counts.suspects_block b d) (λ a b y ys. refl) in omega (arith, a));
     suspected = λ m l. inl (let a = none (Rattle.core_state.specs.Counts.is_suspect m l) (λ a b y ys. refl) in omega (arith, a));
     root_clear = λ l. let a = none (Rattle.core_state.specs.Counts.is_suspect e.graph.root l) (λ a b y ys. refl) in omega (arith, a);
     caused = λ m l d. inl (let a = none (Rattle.core_state.specs.Counts.is_suspect_for m l d) (λ a b y ys. refl) in omega (arith, a));

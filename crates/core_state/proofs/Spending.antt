@@ -3,7 +3,6 @@ use Rattle.std.proofs.Common.{◌≡◌, ◌≢◌, ◌⊎◌, ℕ, ◌+◌, ◌
 use mathlib.Core.Logic.{dite}
 use native.Mathlib.Decide.{ℕ_discrete}
 use Rattle.std.specs.Int.{bit_at}
-use Rattle.std.proofs.lemmas.Bool.{lt-ltb}
 use Rattle.std.proofs.lemmas.Nat.Bits.{bit_at-lt}
 use Rattle.core_state.specs.Graph.{Setting, Sound, Edge, Graph}
 use Rattle.core_state.specs.Words.{Spot, pending, stop, key, descriptor, notify, recovery, posted, turn, spot_of, life_of, mark_of, life_shown, mark_shown, standing_life, replacing}
@@ -13,7 +12,7 @@ use Rattle.core_state.specs.Laws.{IsPlace, SpentOnce, ComputedOnce, LivesNamed, 
 use Rattle.core_state.specs.Laws.Shown.{descriptor as by_descriptor}
 use Rattle.core_state.specs.Rows.{HasKey, Keys, Empty, Lives, Shows, Lists, Content, Facts}
 use Rattle.core_state.specs.Work.{job_count, Jobs, Computings, Credits, RootWork, is_made_early}
-use Rattle.core_state.specs.Blocks.{Holds, Blocks}
+use Rattle.core_state.specs.Blocks.{Blocks}
 use Rattle.core_state.specs.Records.{Records, Causes, Strikes}
 use Rattle.core_state.specs.Cover.{covers_self, covers_edge, works, Needs, Cover, Activity, NoFault}
 use Rattle.core_state.specs.Invariant.{Invariant}
@@ -40,9 +39,11 @@ use Rattle.core_state.proofs.Calm.{posted_same}
 use Rattle.core_state.proofs.Frames.{SameKeys, keys_stay, had}
 use Rattle.core_state.proofs.Growing.{all_closed_grows}
 use Rattle.core_state.proofs.Cases.{three_here, three_apart, three_else, two_tells, two_here}
+use Rattle.core_state.proofs.StandingLives.{replaced_below}
 use Rattle.core_state.proofs.Telling.{IsTold, AllOthers}
 use Rattle.core_state.proofs.Moving.{Still, moved_still, moved_falls, moved_begun, moved_ends_up}
-use Rattle.core_state.proofs.Wide.{wide_needs, wide_waiting, wide_lives, wide_computings, wide_root, wide_causes, wide_strikes, wide_facts, wide_no_fault}
+use Rattle.core_state.proofs.Wide.{wide_needs, wide_waiting, wide_lives, wide_computings, wide_root, wide_causes, wide_strikes, wide_facts, wide_blocks, wide_no_fault}
+use Rattle.core_state.proofs.Suspecting.{descriptor_low, none_struck}
 use Rattle.core_state.proofs.Spent.{is_fresh, is_last, is_marked, SpendView, and_fails, and_low, seen_other, seen_life, seen_mark}
 
 -- a test that neither sees what the item at work has still to do, nor passes what spending adds
@@ -122,9 +123,7 @@ module _ (e : Setting) (fit : Sound e) (s t : Core) (r k j n : ℕ) (x : Told) (
 
   -- the life that the descriptor shows is that which stands, or the next one
   shown_low : life_of n ≤ standing_life (s.word (recovery r)) + replacing (s.word (recovery r))
-  shown_low = let o = inv.lives.each r k has in let z : ℕ = s.word (recovery r) in let f = ap life_of c.found_is in dite (ℕ_discrete (replacing z) 0)
-      (λ q. let a = (o.standing q).descriptor_life in omega (arith, a, f, q))
-      (λ ne. let st = o.being_replaced (omega (arith, ne)) in dite (ℕ_discrete st.done (e.graph.notify_words k + 1)) (λ q. let a = st.descriptor_after q in omega (arith, a, f, ne)) (λ q. let b = st.at_most in let a = st.descriptor_before (omega (arith, b, q)) in omega (arith, a, f, ne)))
+  shown_low = let a = descriptor_low e s r k (s.word (recovery r)) (inv.lives.each r k has) in let f = ap life_of c.found_is in omega (arith, a, f)
 
   pub spend_empty : Empty e t
   spend_empty = record {
@@ -376,19 +375,7 @@ module _ (e : Setting) (fit : Sound e) (s t : Core) (r k j n : ℕ) (x : Told) (
       (λ l. rec (is_computed e.graph.root l) refl) (λ b m. let a = eq (in_wrong_hand b m) (wrong_same b m) in omega (arith, a)) (λ b. eq (in_hand b) (hands_same b)) (λ b. c.blocks b (λ q. cc)) inv.work.root
 
   pub spend_blocks : Blocks e t
-  spend_blocks = record {
-    each = λ b low. let o = inv.blocks.each b low in let hand = eq (in_hand b) (hands_same b) in record {
-      taken = wd (turn b) (λ q. cc) ∙ o.taken ∙ sym hand;
-      once = let a = o.once in omega (arith, a, hand);
-      holds = subst (Holds e t b) (sym (c.blocks b (λ q. cc))) (let h = o.holds in let y = s.block b in record {
-        good = h.good;
-        written = λ z. let a = h.written z in let d = more (is_version b y.tag) in omega (arith, a, d);
-        struck = λ z. let a = h.struck z in (a.0, let f = a.1 in let d = more (is_struck_version b y.tag) in omega (arith, f, d));
-        twice = λ z less some. let a = h.twice z less (let d = rec (is_version b z) refl in omega (arith, d, some)) in let d = more (is_version b y.tag) in omega (arith, a, d);
-        root = h.root;
-      });
-    };
-  }
+  spend_blocks = wide_blocks e s t (λ b. wd (turn b) (λ q. cc)) (λ b. eq (in_hand b) (hands_same b)) more (λ b y. rec (is_version b y) refl) (λ b. c.blocks b (λ q. cc)) inv.blocks
 
   new_spent : (m l i : ℕ) → (many t (is_spent m l i) ≡ many s (is_spent m l i)) ⊎ ((m ≡ k) × (l ≡ life_of n) × (i ≡ j))
   new_spent m l i = ⊎_elim (λ z. inl (let a = spent_more m l i in let b = and_low (is_fresh x) (three m l i k (life_of n) j) in omega (arith, a, b, z))) (λ z. inr z) (three_else m l i k (life_of n) j)
@@ -420,8 +407,7 @@ module _ (e : Setting) (fit : Sound e) (s t : Core) (r k j n : ℕ) (x : Told) (
     };
     lives = record {
       replaced_before = λ m l later z. ⊎_elim (λ q. let b = inv.records.lives.replaced_before m l later (omega (arith, q, z)) in let d = more (is_replaced m (l - 1)) in omega (arith, b, d))
-          (λ q. subst (λ o. 0 < many t (is_replaced o (l - 1))) (sym q.0) (let a = inv.records.replaced r k (l - 1) has in let low = shown_low in let f = q.1 in let d = more (is_replaced k (l - 1)) in
-          let b : hit (nat_lt 0 (l - 1) && nat_lt (l - 1) (standing_life (s.word (recovery r)) + replacing (s.word (recovery r)))) ≡ 1 = rw (lt-ltb 0 (l - 1) (omega (arith, later)), lt-ltb (l - 1) (standing_life (s.word (recovery r)) + replacing (s.word (recovery r))) (omega (arith, low, f, later))) in omega (arith, a, b, d))) (new_of m l);
+          (λ q. subst (λ o. 0 < many t (is_replaced o (l - 1))) (sym q.0) (let a = replaced_below e s r k l inv.records has later (let low = shown_low in let f = q.1 in omega (arith, low, f)) in let d = more (is_replaced k (l - 1)) in omega (arith, a, d))) (new_of m l);
       created_once = λ m l z. rec (is_created m) refl ∙ ⊎_elim (λ q. inv.records.lives.created_once m l (omega (arith, q, z))) (λ q. subst (λ o. many s (is_created o) ≡ 1) (sym q.0) (inv.keys.created r k has)) (new_of m l);
       reached = λ m l z. ⊎_elim (λ q. inv.records.lives.reached m l (omega (arith, q, z))) (λ q. subst (Rattle.core_state.specs.Graph.Reached e.graph) (sym q.0) (inv.keys.reached r k has)) (new_of m l);
     };
@@ -543,13 +529,9 @@ module _ (e : Setting) (fit : Sound e) (s t : Core) (r k j n : ℕ) (x : Told) (
 
   pub spend_no_fault : NoFault e t
   spend_no_fault = wide_no_fault e s t keys_same (λ y. wd (recovery y) (λ q. cc)) more
-      (λ unstruck old. ⊎_elim (λ z. absurd (let a = shows.struck (marked z) in let b = sums.none (noted Rattle.core_state.specs.Counts.is_any_struck) (noted (is_struck k (life_of n) hit_of.Descriptor)) (λ o f. Rattle.core_state.proofs.Claiming.fewer Rattle.core_state.specs.Counts.is_any_struck (is_struck k (life_of n) hit_of.Descriptor) any_struck o.records f) unstruck in omega (arith, a, b)))
+      (λ unstruck old. ⊎_elim (λ z. absurd (let a = shows.struck (marked z) in let b = none_struck s sums unstruck k (life_of n) hit_of.Descriptor in omega (arith, a, b)))
       (λ z. eq (items is_any_suspect) (let a = u.added is_any_suspect in let b = and_fails (is_last x) false refl in let d : hit (is_marked x && true) ≡ 0 = rw z refl in let f = moved_still is_any_suspect record { explore = λ a l i. refl; notify = λ a l y q qs. refl; reenter = λ a l q qs. refl } e.graph v in omega (arith, a, b, d, f)) ∙ old.none_suspected) (either (is_marked x)))
       (λ b y. rec (is_version b y) refl) (λ b. c.blocks b (λ q. cc)) inv.no_fault
-    where
-      any_struck : (o : Record) → is_struck k (life_of n) hit_of.Descriptor o ≡ true → Rattle.core_state.specs.Counts.is_any_struck o ≡ true
-      any_struck (record_of.Struck a l h) z = refl
-      any_struck o z = absurd cc
 
   pub spend_keeps : Invariant e t
   spend_keeps = record {

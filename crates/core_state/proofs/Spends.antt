@@ -34,7 +34,7 @@ pub pushed : (p : Item → Bool) (x : Item) (ss rest : List Stack) (u : Stack) �
 pushed p x ss rest u is = rw is (let a = bump_is (p x) (count p u.items) in omega (arith, a))
 
 -- a call that spends a place is made by an item that comes to it
-serves : (e : Setting) (v : View) (k j : ℕ) → Spends e v k j → Serves e v k j
+pub serves : (e : Setting) (v : View) (k j : ℕ) → Spends e v k j → Serves e v k j
 serves e v k j (exploring l at low known) = Rattle.core_state.proofs.Moving.Serves.exploring l at low
 serves e v k j (notifying p l w q qs at low task is known) = Rattle.core_state.proofs.Moving.Serves.notifying p l w q qs at task is
 serves e v k j (reentering p l q qs at low task is known) = Rattle.core_state.proofs.Moving.Serves.reentering p l q qs at task is
@@ -111,7 +111,7 @@ closes_some k l w x z = absurd cc
 
 module _ (e : Setting) (fit : Sound e) (s t : Core) (sums : Sums s) (r k j n : ℕ) (v : View) (can : CanSpend e v r k j) (c : Change s t (descriptor r) n (bit_or n (2 ^ j)) v (after_spend e.graph k j n (told_of (e.graph.places k) j n) v)) (inv : Invariant e s) where
   -- the place is one of the key
-  spends_place : Spends e v k j → IsPlace e.graph k j
+  pub spends_place : Spends e v k j → IsPlace e.graph k j
   spends_place (exploring l at low known) = inl low
   spends_place (notifying p l w q qs at low task is known) = inl (subst (λ o. o < e.graph.places k) is (subst (λ o. (e.graph.succ p q).place < e.graph.places o) task (fit.lawful.forth p q low).0))
   spends_place (reentering p l q qs at low task is known) = inl (subst (λ o. o < e.graph.places k) is (subst (λ o. (e.graph.succ p q).place < e.graph.places o) task (fit.lawful.forth p q low).0))

@@ -531,9 +531,9 @@ word_in r (known.Row row key ∷ xs) = cond (eqb r row) (key + 1) (word_in r xs)
 word_in r (_ ∷ xs) = word_in r xs
 
 -- what the view knows of the key word of a row: its number, or 0
-pub known_word : ℕ → View → ℕ
+unfoldable pub known_word : ℕ → View → ℕ
 known_word r v = word_in r v.known
 
 -- the key that the view knows of a row, where it knows one
-pub known_key : ℕ → View → ℕ
+unfoldable pub known_key : ℕ → View → ℕ
 known_key r v = known_word r v - 1

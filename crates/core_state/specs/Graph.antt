@@ -32,6 +32,8 @@ pub record Graph : Type 0 where
   pub version : ℕ → ℕ
   pub writer : ℕ → ℕ → ℕ
   pub versions : ℕ → ℕ
+  -- how many cells a block has
+  pub cells : ℕ → ℕ
   -- the serial value of a task
   pub value : ℕ → List ℤ
   pub rank : ℕ → ℕ
@@ -105,10 +107,12 @@ pub record Sound (e : Setting) : Type 0 where
   pub few_keys : length e.keys ≤ e.shape.rows
   pub listed : (k : ℕ) → Reached e.graph k → Contains e.keys k
   pub small_keys : (k : ℕ) → Reached e.graph k → k ≤ 2 ^ 63
+  -- each value fits the block that it is written to
+  pub value_fits : (k : ℕ) → Reached e.graph k → length (e.graph.value k) ≡ e.graph.cells (e.graph.block k)
 
 -- a graph without tasks
 abbrev pub no_graph : Graph
-no_graph = record { root = 0; sink = 0; places = λ _. 0; inputs = λ _. 0; pred = λ _ _. record { task = 0; port = 0 }; ports = λ _. 0; succ = λ _ _. record { task = 0; place = 0 }; notify_words = λ _. 1; block = λ _. 0; version = λ _. 1; writer = λ _ _. 0; versions = λ _. 1; value = λ _. []; rank = λ _. 0 }
+no_graph = record { root = 0; sink = 0; places = λ _. 0; inputs = λ _. 0; pred = λ _ _. record { task = 0; port = 0 }; ports = λ _. 0; succ = λ _ _. record { task = 0; place = 0 }; notify_words = λ _. 1; block = λ _. 0; version = λ _. 1; writer = λ _ _. 0; versions = λ _. 1; cells = λ _. 0; value = λ _. []; rank = λ _. 0 }
 
 -- a setting that nobody has picked
 abbrev pub no_setting : Setting

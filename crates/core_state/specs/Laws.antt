@@ -91,7 +91,7 @@ grounds g b v u ok (record_of.Replaced key life c) = cond (nat_lt v u) (reads_up
 grounds g b v u ok _ = false
 
 -- the cause is grounded by at most n - 1 replacements, one after the other
-pub grounded_upto : Graph → List Record → ℕ → Cause → Bool
+unfoldable pub grounded_upto : Graph → List Record → ℕ → Cause → Bool
 grounded_upto g xs zero c = false
 grounded_upto g xs (suc n) cause.Descriptor = true
 grounded_upto g xs (suc n) cause.Notify = true

@@ -13,5 +13,10 @@ pub mod Work
 pub mod Blocks
 pub mod Records
 pub mod Cover
+pub mod Prevented
 pub mod Invariant
 pub mod Kinds
+pub mod Lines
+pub mod Outcome
+pub mod Rooted
+pub mod Asked

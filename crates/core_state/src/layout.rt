@@ -1,6 +1,6 @@
 ghost use Rattle.std.specs.Prelude.{◌≡◌, IfOk};
 ghost use Rattle.graph_model.specs.Graph.{IsTask};
-ghost use Rattle.core_state.specs.Shapes.{IsLayoutOf, IsWidest, SameLayout, words_of};
+ghost use Rattle.core_state.specs.Shapes.{IsLayoutOf, IsWidest, SameLayout, edges_of, words_of};
 
 use super::words::PORTS_PER_WORD;
 use graph_model::{Key, TaskGraph};
@@ -14,11 +14,20 @@ pub struct Layout {
     pub cells: Vec<usize>,
 }
 
-fn notify_words<G: TaskGraph>(graph: &G, key: Key) -> u32
+/// The successor edges of a task, the root's on the sink counted.
+pub(crate) fn edge_count<G: TaskGraph>(graph: &G, key: Key) -> u32
+    requires { IsTask (G.graph graph.now) key.0 }
+    ensures { result ≡ edges_of (G.graph graph.now) key.0 }
+{
+    graph.succ_count(key) + u32::from(key == graph.sink())
+}
+
+/// The notify words of a task.
+pub(crate) fn notify_words<G: TaskGraph>(graph: &G, key: Key) -> u32
     requires { IsTask (G.graph graph.now) key.0 }
     ensures { result ≡ words_of (G.graph graph.now) key.0 }
 {
-    let edges = graph.succ_count(key) + u32::from(key == graph.sink());
+    let edges = edge_count(graph, key);
     edges.div_ceil(PORTS_PER_WORD).max(1)
 }
 

@@ -6,6 +6,7 @@ mod block;
 mod course;
 mod job;
 mod layout;
+mod rooted;
 mod views;
 mod words;
 
@@ -14,5 +15,6 @@ pub use block::BlockCells;
 pub use course::Course;
 pub use job::Job;
 pub use layout::Layout;
+pub use rooted::{ROOT, Rooted};
 pub use views::{Ended, Hand, Item, Known, Stack, View, Word};
-pub use words::{Descriptor, NotifyWord, PORTS_PER_WORD, Recovery, SELF_PLACE};
+pub use words::{Descriptor, GREATEST_LIFE, NotifyWord, PORTS_PER_WORD, Recovery, SELF_PLACE};

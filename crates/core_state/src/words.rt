@@ -10,6 +10,9 @@ pub const PORTS_PER_WORD: u32 = 40;
 /// The place of a descriptor that exploring itself spends.
 pub const SELF_PLACE: u32 = 40;
 
+/// The greatest life that a task may have.
+pub const GREATEST_LIFE: u32 = 65_535;
+
 const CLOSED: u64 = 1 << 40;
 
 const MARK: u64 = 1 << 41;
@@ -141,6 +144,13 @@ impl NotifyWord {
         ensures { result ≡ 2 ^ (port % 40) }
     {
         1u64 << (port % PORTS_PER_WORD)
+    }
+
+    /// The bit that closes a word.
+    pub fn closing_bit() -> u64
+        ensures { result ≡ 2 ^ 40 }
+    {
+        CLOSED
     }
 
     /// The bits that a strike sets.
