@@ -18,6 +18,7 @@ use Rattle.core_state.specs.declared.views.View.{View}
 use Rattle.core_state.proofs.Cases.{bump_is, eqb_here, two_here}
 use Rattle.core_state.proofs.Claiming.{fewer_items}
 use Rattle.core_state.proofs.Made.{carries_at, owed_at}
+use Rattle.core_steps.proofs.Changing.{all_count}
 
 sum_upto : ℕ → (ℕ → ℕ) → ℕ
 sum_upto zero f = 0
@@ -88,10 +89,6 @@ module _ (rows lives : ℕ) where
         names_owed (item.Owe k Compute l) e = (Compute, (k, (l, two_here k l)))
         names_owed x e = absurd cc
 
-    all_count : (ss : List Stack) → count (λ _. true) ss ≡ length ss
-    all_count [] = refl
-    all_count (s ∷ ss) = let a = all_count ss in omega (arith, a)
-
     stacks_in : (ss : List Stack) → ((j : Job) (k l : ℕ) → 0 < count (came_with j k l) ss → Good k l) → length ss ≤ grid (λ r l. count (came_with Explore (key_in r) l) ss + count (came_with Compute (key_in r) l) ss)
     stacks_in ss good = let a = listed (λ _. true) came_with (λ s e. (s.job, (s.key, (s.life, itself s.job s.key s.life)))) ss good in let b = all_count ss in omega (arith, a, b)
       where
@@ -131,7 +128,7 @@ module _ (e : Setting) (fit : Sound e) (s : Core) (sums : Sums s) (i : Invariant
       (λ none. i.keys.of_ended j k l (let a = begun_is j k l in omega (arith, a, z, none)))
       (λ some. row_of k (carries j k l) (carries_at j k l) (omega (arith, some)))
 
-  greatest : (k : ℕ) → greatest_life e k ≤ 65535
+  pub greatest : (k : ℕ) → greatest_life e k ≤ 65535
   greatest k = by (eqb k e.graph.root)
     where
       by : (b : Bool) → cond b 65535 e.lives ≤ 65535
@@ -186,6 +183,10 @@ module _ (e : Setting) (fit : Sound e) (s : Core) (sums : Sums s) (i : Invariant
 
   pub good_came : (j : Job) (k l : ℕ) → 0 < s.total (came j k l) → GoodKey k l
   good_came j k l z = let a = i.work.jobs.came j k l in let some : 0 < s.total (begun j k l) = omega (arith, a, z) in let row = begun_row j k l some in good_row k l row (job_life row.0 k l row.1 j (let b = begun_is j k l in omega (arith, some, b)))
+
+  -- a computing that a view holds is of a life that its row has
+  pub held_life : (r k l : ℕ) → HasKey e s r k → 0 < s.total (held Compute k l) → (0 < l) × (l ≤ 65535)
+  held_life r k l has z = (dite (ℕ_discrete l 0) (λ q. absurd (let a = (no_life Compute k l q).1 in let b = begun_is Compute k l in omega (arith, a, b, z))) (λ ne. omega (arith, ne)), job_life r k l has Compute (omega (arith, z)))
 
   pub once_owed : (j : Job) (k l : ℕ) → s.total (owed j k l) ≤ 1
   once_owed j k l = let a = once j k l in omega (arith, a)

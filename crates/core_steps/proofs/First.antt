@@ -7,7 +7,7 @@ use Rattle.std.proofs.lemmas.Bool.{lt-ltb}
 use Rattle.std.proofs.lemmas.Nat.{mod_below}
 use Rattle.core_state.specs.Graph.{Setting, Sound}
 use Rattle.core_state.specs.Words.{Shape, Spot, pending, stop, key, descriptor, notify, recovery, posted, turn, place_of, inside, read}
-use Rattle.core_state.specs.Counts.{bump, items, noted, total_of}
+use Rattle.core_state.specs.Counts.{bump, in_hand, noted, total_of}
 use Rattle.core_state.specs.Change.{block_of, held_by, cells_or}
 use Rattle.core_state.specs.Invariant.{Invariant, Opening, first_word}
 use Rattle.core_state.specs.Views.{bare, opener, all_parts, key_of}
@@ -19,8 +19,9 @@ use Rattle.core_state.proofs.Cases.{eqb_here}
 use Rattle.core_state.proofs.JobWords.{and_false}
 use Rattle.core_state.proofs.Opened.{opening}
 use Rattle.core_state.proofs.Spots.{read_here, read_else}
-use Rattle.core_steps.specs.Table.{Stored, IsSound, IsUnwritten, IsBare, first_words, first_views, word_count, core_by, home_at, is_kept, is_root_replaced, is_later}
+use Rattle.core_steps.specs.Table.{Stored, IsSound, IsFilled, IsUnwritten, IsBare, first_words, first_views, word_count, core_by, home_at, is_kept, is_root_replaced}
 use Rattle.core_steps.proofs.Changing.{low_place}
+use Rattle.core_steps.proofs.Housing.{housed_first}
 
 zero_there : (n i : ℕ) → ◌≡◌ {A = ℕ} (get_or (replicate n 0) i 0) 0
 zero_there n i = dite (dec_lt i n) (λ l. get_or-replicate n i 0 0 l) (λ m. beyond n i m)
@@ -46,6 +47,10 @@ none_more (suc n) f z = let a = none_more n f z in omega (arith, a, z)
 none_held : (n b : ℕ) → held_by b (replicate n (bare 1 [])) ≡ mathlib.Core.Option.none
 none_held zero b = refl
 none_held (suc n) b = none_held n b
+
+-- the last entry of a list that has this length
+pub last_fits : (xs ys : List ℕ) (b : ℕ) (cells : ℕ → ℕ) → xs ≡ ys → b + 1 ≡ length ys → ((n : ℕ) → n < length ys → get_or ys n 0 ≡ cells n) → get_or xs (length xs - 1) 0 ≡ cells b
+last_fits xs ys b cells same long is = ap (λ zs. get_or zs (length zs - 1) 0) same ∙ ap (λ n. get_or ys n 0) (let a : length ys - 1 ≡ b = omega (arith, long) in a) ∙ is b (omega (arith, long))
 
 module _ (e : Setting) (fit : Sound e) (workers : ℕ) (blocks : List (Option BlockCells)) (unwritten : IsUnwritten blocks) (root_is : e.graph.root ≡ 2 ^ 63) where
   row : ℕ
@@ -101,8 +106,9 @@ module _ (e : Setting) (fit : Sound e) (workers : ℕ) (blocks : List (Option Bl
   holds_first : Invariant e (core_by e.shape (first_words e) blocks (first_views e workers))
   holds_first = opening e (core_by e.shape (first_words e) blocks (first_views e workers)) fit opens
 
-  pub sound_first : (stores : List Stored) → IsBare stores → length stores ≡ workers → 1 ≤ workers → IsSound e (record { words = first_words e; views = first_views e workers; blocks = blocks; stores = stores; root_replaced = []; shape = e.shape })
-  sound_first stores bares many least = record {
+  pub sound_first : (stores : List Stored) (cells : List ℕ) (room slots : ℕ) → length blocks ≡ e.shape.blocks → IsFilled cells blocks → ((b : ℕ) → b < length blocks → get_or cells b 0 ≡ e.graph.cells b) → IsBare stores → length stores ≡ workers → 1 ≤ workers → e.graph.block e.graph.root + 1 ≡ e.shape.blocks → room ≡ e.graph.cells (e.graph.block e.graph.root)
+      → IsSound e (record { words = first_words e; views = first_views e workers; blocks = blocks; stores = stores; root_replaced = []; shape = e.shape; root_room = room; replaced_room = slots })
+  sound_first stores cells room slots as_many filled graph_cells bares many least last fits = record {
     setting = fit;
     shape_is = refl;
     root_is = root_is;
@@ -113,13 +119,15 @@ module _ (e : Setting) (fit : Sound e) (workers : ℕ) (blocks : List (Option Bl
       replaced = λ q. sym (total_first (noted (λ x. q x && is_root_replaced e.graph.root x)) (λ y. refl) ∙ none (q (record_of.Created (key_of e.graph.root))) (λ (b : Bool). b && false) (eqb_here e.graph.root) refl);
     };
     workers = let a = length-replicate (workers - 1) (bare 1 []) in let b : length (first_views e workers) ≡ workers = omega (arith, a, least) in many ∙ sym b;
-    none_later = total_first (items is_later) (λ y. refl);
-    unwritten = λ b. (unwritten b).0;
+    at_home = λ b x home. total_first (in_hand b) (λ y. refl);
+    housed = housed_first e e.shape cells blocks (first_views e workers) as_many filled graph_cells (λ b. total_first (in_hand b) (λ y. refl)) block_first;
+    root_last = last;
+    room_is = fits;
   }
     where
       none : (a : Bool) (f : Bool → Bool) {x : Bool} → x ≡ true → f true ≡ false → bump (a && f x) 0 ≡ 0
       none a f is falls = ap (λ (b : Bool). bump (a && b) 0) (ap f is ∙ falls) ∙ ap (λ (b : Bool). bump b 0) (and_false a)
 
-  pub sound_new : (stores : List Stored) (ws : List ℕ) (vs : List View) (rs : List Record) (h : Shape) → IsBare stores → length stores ≡ workers → 1 ≤ workers → ws ≡ first_words e → vs ≡ first_views e workers → rs ≡ [] → h ≡ e.shape
-      → IsSound e (record { words = ws; views = vs; blocks = blocks; stores = stores; root_replaced = rs; shape = h })
-  sound_new stores ws vs rs h bares many least a b c d = subst (IsSound e) (λ j. record { words = sym a j; views = sym b j; blocks = blocks; stores = stores; root_replaced = sym c j; shape = sym d j }) (sound_first stores bares many least)
+  pub sound_new : (stores : List Stored) (cells ys : List ℕ) (ws : List ℕ) (vs : List View) (rs : List Record) (h : Shape) (room slots : ℕ) → cells ≡ ys → length ys ≡ e.shape.blocks → length blocks ≡ length cells → IsFilled cells blocks → ((b : ℕ) → b < length ys → get_or ys b 0 ≡ e.graph.cells b) → IsBare stores → length stores ≡ workers → 1 ≤ workers → e.graph.block e.graph.root + 1 ≡ e.shape.blocks → room ≡ e.graph.cells (e.graph.block e.graph.root) → ws ≡ first_words e → vs ≡ first_views e workers → rs ≡ [] → h ≡ e.shape
+      → IsSound e (record { words = ws; views = vs; blocks = blocks; stores = stores; root_replaced = rs; shape = h; root_room = room; replaced_room = slots })
+  sound_new stores cells ys ws vs rs h room slots same shape_is as_many filled graph_cells bares many least last fits a b c d = subst (IsSound e) (λ j. record { words = sym a j; views = sym b j; blocks = blocks; stores = stores; root_replaced = sym c j; shape = sym d j; root_room = room; replaced_room = slots }) (sound_first stores cells room slots (as_many ∙ ap length same ∙ shape_is) filled (λ b low. ap (λ zs. get_or zs b 0) same ∙ graph_cells b (let a = ap length same in omega (arith, a, as_many, low))) bares many least last fits)

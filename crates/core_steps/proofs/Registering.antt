@@ -1,9 +1,7 @@
 -- Registering a port keeps a plain table sound.
-use Rattle.std.proofs.Common.{◌≡◌, ℕ, ◌/◌, ◌<◌, ◌≤◌, ◌&&◌, Bool, true, false, nat_lt, [], length, get_or, set, arith, sym, ap, refl, ◌∙◌, subst}
-use Rattle.std.proofs.lemmas.Bool.{lt-ltb}
+use Rattle.std.proofs.Common.{◌≡◌, ℕ, ◌/◌, ◌<◌, [], length, get_or, set, refl, subst}
 use Rattle.core_state.specs.Graph.{Setting, Graph}
-use Rattle.core_state.specs.Words.{notify, place_of, inside}
-use Rattle.core_state.specs.Counts.{items}
+use Rattle.core_state.specs.Words.{notify, place_of}
 use Rattle.core_state.specs.Calls.{CanRegister, Registers}
 use Rattle.core_state.specs.Calls.Registers.{exploring, reentering}
 use Rattle.core_state.specs.Events.{after_register, registered_of, register_left}
@@ -11,22 +9,12 @@ use Rattle.core_state.specs.Views.{settle}
 use Rattle.core_state.specs.declared.answers.Registered.{Registered}
 use Rattle.core_state.specs.declared.answers.Registered.TheVariants as registered
 use Rattle.core_state.specs.declared.block.BlockCells.{BlockCells}
-use Rattle.core_state.specs.declared.views.Item.TheVariants as item
 use Rattle.core_state.specs.declared.views.View.{View}
-use Rattle.graph_model.specs.declared.record.Cause.TheVariants as cause
-use Rattle.core_state.proofs.Made.{push_none}
-use Rattle.core_state.proofs.Moving.{moved_falls}
 use Rattle.core_state.proofs.Registers.{keeps_register}
 use Rattle.core_state.proofs.Stepping.{state_sums}
+use Rattle.core_steps.proofs.Loading.{word_fits, notify_inside}
 use Rattle.core_steps.proofs.Sounding.{quiet_step, row_in, with_step}
-use Rattle.core_steps.proofs.Spending.{falling}
-use Rattle.core_steps.specs.Table.{Plain, view_at, home_at, core_by, is_later, IsSound}
-
--- no registering brings an item of a later kind
-register_falls : (g : Graph) (k q n : ℕ) (v : View) (x : Registered) → items is_later (after_register g k q n x v) ≤ items is_later v
-register_falls g k q n v (registered.Waiting l) = moved_falls is_later falling g v
-register_falls g k q n v (registered.Closed l) = omega arith
-register_falls g k q n v (registered.Struck l) = let a = push_none is_later (item.Suspect k l cause.Notify false) v.stacks refl in omega (arith, a)
+use Rattle.core_steps.specs.Table.{Plain, view_at, home_at, core_by, IsSound}
 
 register_hands : (g : Graph) (k q n : ℕ) (v : View) (x : Registered) → (after_register g k q n x v).hands ≡ v.hands
 register_hands g k q n v (registered.Waiting l) = refl
@@ -48,13 +36,10 @@ module _ (e : Setting) (p : Plain) (i : ℕ) (low : i < length p.views) (s : IsS
   row_there = row_in e p i low s r can.row.low
 
   pub word_there : q / 40 < p.shape.notify_words
-  word_there = subst (λ h. q / 40 < h.notify_words) (sym s.shape_is) (let a = has_word can.edge in let b = s.setting.words_fit k in omega (arith, a, b))
-
-  here : inside p.shape (notify r (q / 40)) ≡ true
-  here = ap (λ (b : Bool). b && nat_lt (q / 40) p.shape.notify_words) (lt-ltb r p.shape.rows row_there) ∙ lt-ltb (q / 40) p.shape.notify_words word_there
+  word_there = word_fits e p k (q / 40) s (has_word can.edge)
 
   pub sound_register : let n : ℕ = get_or p.words (place_of p.shape (notify r (q / 40))) 0 in IsSound e (with_step p (notify r (q / 40)) (register_left q n) i (settle e.graph e.plan (after_register e.graph k q n (registered_of n) (view_at p i))))
   sound_register = let n : ℕ = get_or p.words (place_of p.shape (notify r (q / 40))) 0 in let w : View = after_register e.graph k q n (registered_of n) (view_at p i) in
-      quiet_step e p i low s (notify r (q / 40)) (register_left q n) w here (register_hands e.graph k q n (view_at p i) (registered_of n)) (register_records e.graph k q n (view_at p i) (registered_of n)) (register_falls e.graph k q n (view_at p i) (registered_of n))
+      quiet_step e p i low s (notify r (q / 40)) (register_left q n) w (notify_inside e p r k (q / 40) s row_there (has_word can.edge)) (register_hands e.graph k q n (view_at p i) (registered_of n)) (register_records e.graph k q n (view_at p i) (registered_of n))
       (λ c. keeps_register e s.setting (core_by p.shape p.words p.blocks p.views) (core_by p.shape (set p.words (place_of p.shape (notify r (q / 40))) (register_left q n)) p.blocks (set p.views i w))
       (state_sums {S = BlockCells} p.shape (λ _. home_at p.blocks) (record { words = p.words; homes = []; views = p.views })) r k q n (view_at p i) can c s.holds)

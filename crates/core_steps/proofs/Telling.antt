@@ -1,5 +1,5 @@
 -- What claims and looks tell a caller of the key words, and what they keep.
-use Rattle.std.proofs.Common.{◌≡◌, ◌≢◌, ℕ, zero, suc, ◌+◌, ◌-◌, ◌%◌, ◌*◌, ◌/◌, ◌<◌, Bool, true, false, cond, ◌&&◌, eqb, ne_eqb, eq-eqb, lt-ltb, le-ltb, ◌∷◌, length, get_or, arith, sym, ap, refl, ◌∙◌, subst, Option, Some, None}
+use Rattle.std.proofs.Common.{◌≡◌, ◌≢◌, ℕ, zero, suc, ◌+◌, ◌-◌, ◌%◌, ◌*◌, ◌/◌, ◌<◌, Bool, true, false, cond, ◌&&◌, eqb, ne_eqb, eq-eqb, lt-ltb, le-ltb, List, [], ◌∷◌, length, get_or, arith, sym, ap, refl, ◌∙◌, subst, Option, Some, None}
 use mathlib.Core.Logic.{dite}
 use native.Mathlib.Decide.{ℕ_discrete, dec_lt}
 use native.Mathlib.Nat.{div-add-mod', add-mul}
@@ -21,8 +21,12 @@ use Rattle.core_state.specs.declared.views.Known.TheVariants as known
 use Rattle.core_state.specs.declared.views.View.{View}
 use Rattle.core_state.proofs.Cases.{eqb_here}
 use Rattle.core_state.proofs.Claiming.{word_known}
+use Rattle.core_state.proofs.JobWords.{and_false}
 use Rattle.core_state.proofs.Made.{push_none}
 use Rattle.core_state.proofs.Paths.{reaches, distance_below, at_distance}
+use Rattle.core_state.proofs.Settled.{fails}
+use Rattle.core_state.proofs.Settling.{settled_same}
+use Rattle.core_state.proofs.Skips.{tops_same}
 use Rattle.core_state.proofs.Spots.{read_at}
 use Rattle.core_state.proofs.Sums.{total_within}
 use Rattle.key_table.specs.Path.{path_row, HasPassed, IsNext}
@@ -33,10 +37,9 @@ use Rattle.key_table.specs.declared.words.Seen.{Seen}
 use Rattle.key_table.specs.declared.words.Seen.TheVariants.{Empty, Holds}
 use Rattle.core_steps.specs.Seat.{Explores, Awaits, known_of, key_in, key_event}
 use Rattle.core_steps.specs.Seat.Awaits.{by_port, by_block}
-use Rattle.core_steps.specs.Table.{Plain, IsSound, KeyStepped, view_at, core_by, is_later}
-use Rattle.core_steps.proofs.Changing.{elem_at, nothing_settles, nothing_skipped}
+use Rattle.core_steps.specs.Table.{Plain, IsSound, KeyStepped, view_at, core_by}
+use Rattle.core_steps.proofs.Changing.{elem_at}
 use Rattle.core_steps.proofs.Seats.{explored_reached}
-use Rattle.core_steps.proofs.Sounding.{later_none}
 
 -- a row of a key's path, as the core counts it
 path_is : (k rows i : ℕ) → i < rows → path_row k rows i ≡ (k + i) % rows
@@ -120,39 +123,56 @@ module _ (e : Setting) (p : Plain) (i : ℕ) (low : i < length p.views) (s : IsS
     path = subst (λ d. others_before e.shape.rows k (view_at p i).known d ≡ true) (at_distance e.shape.rows k r next.step l next.within here) (passed_is k next.step next.within next.passed);
   }
 
+-- a test of items that no claim, no look and no settling changes the count of
+record Lasting (q : Item → Bool) : Type 0 where
+  owed : (k l : ℕ) (j : Job) → q (item.Owe k j l) ≡ false
+  entered : (k l : ℕ) (ports : List ℕ) → q (item.Reenter k l ports) ≡ false
+  told : (k l w : ℕ) → q (item.Notify k l w []) ≡ false
+  closing : (k l w : ℕ) → q (item.Close k l w) ≡ false
+
+exploring_lasts : (a l j : ℕ) → Lasting (is_exploring a l j)
+exploring_lasts a l j = record { owed = λ k m o. refl; entered = λ k m ps. refl; told = λ k m w. refl; closing = λ k m w. refl }
+
+notifying_lasts : (a q : ℕ) → Lasting (notifies a q)
+notifying_lasts a q = record { owed = λ k m o. refl; entered = λ k m ps. refl; told = λ k m w. and_false (eqb a k); closing = λ k m w. refl }
+
+blaming_lasts : (b u : ℕ) → Lasting (suspects_block b u)
+blaming_lasts b u = record { owed = λ k m o. refl; entered = λ k m ps. refl; told = λ k m w. refl; closing = λ k m w. refl }
+
 -- what a claim or a look leaves as it was, and the number that the row is known by
 record Effect (v w : View) (row left : ℕ) : Type 0 where
-  its : (p : Item → Bool) → ((k l : ℕ) (j : Job) → p (item.Owe k j l) ≡ false) → items p w ≡ items p v
+  its : (q : Item → Bool) → Lasting q → items q w ≡ items q v
   knows : (x : ℕ) → x ≢ row → word_in x w.known ≡ word_in x v.known
   here : word_in row w.known ≡ left
 
 told_effect : (v : View) (row m : ℕ) → Effect v (record v { known = known.Row row m ∷ v.known }) row (m + 1)
 told_effect v row m = record {
-  its = λ p q. refl;
+  its = λ q u. refl;
   knows = λ x ne. ap (λ (b : Bool). cond b (m + 1) (word_in x v.known)) (ne_eqb x row ne);
   here = ap (λ (b : Bool). cond b (m + 1) (word_in row v.known)) (eqb_here row);
 }
 
 made_effect : (v : View) (row k : ℕ) → Effect v (after_claim row k claim.Made v) row (k + 1)
 made_effect v row k = record {
-  its = λ p q. push_none p (item.Owe k Explore 1) v.stacks (q k 1 Explore);
+  its = λ q u. push_none q (item.Owe k Explore 1) v.stacks (u.owed k 1 Explore);
   knows = λ x ne. ap (λ (b : Bool). cond b (k + 1) (word_in x v.known)) (ne_eqb x row ne);
   here = ap (λ (b : Bool). cond b (k + 1) (word_in row v.known)) (eqb_here row);
 }
 
-module _ (e : Setting) (v : View) (none : items is_later v ≡ 0) where
-  settled : (w : View) (row left : ℕ) → items is_later w ≡ 0 → Effect v w row left → Effect v (settle e.graph e.plan w) row left
-  settled w row left z x = subst (λ u. Effect v u row left) (sym (nothing_settles e.graph e.plan w z)) x
-
-  later_same : (w : View) (row left : ℕ) → Effect v w row left → items is_later w ≡ 0
-  later_same w row left x = x.its is_later (λ k l j. refl) ∙ none
+module _ (e : Setting) (v : View) where
+  settled : (w : View) (row left : ℕ) → Effect v w row left → Effect v (settle e.graph e.plan w) row left
+  settled w row left x = record {
+    its = λ q u. settled_same e.graph e.plan q w (fails e.graph e.plan w.strikes q (record { notify = u.told; reenter = λ k l. u.entered k l []; close = u.closing })) ∙ x.its q u;
+    knows = x.knows;
+    here = x.here;
+  }
 
   claim_effect : (row k n : ℕ) → Effect v (settle e.graph e.plan (after_claim row k (claim_of k n) v)) row (claim_left k n)
   claim_effect row k n = dite (ℕ_discrete n 0)
-      (λ z. subst (λ m. Effect v (settle e.graph e.plan (after_claim row k (claim_of k m) v)) row (claim_left k m)) (sym z) (settled (after_claim row k claim.Made v) row (k + 1) (later_same (after_claim row k claim.Made v) row (k + 1) (made_effect v row k)) (made_effect v row k)))
+      (λ z. subst (λ m. Effect v (settle e.graph e.plan (after_claim row k (claim_of k m) v)) row (claim_left k m)) (sym z) (settled (after_claim row k claim.Made v) row (k + 1) (made_effect v row k)))
       (λ full. let w : View = record v { known = known.Row row (n - 1) ∷ v.known } in
       subst (λ u. Effect v (settle e.graph e.plan u) row (claim_left k n)) (sym (found row k n full))
-      (subst (Effect v (settle e.graph e.plan w) row) (let a : n - 1 + 1 ≡ n = omega (arith, full) in a ∙ sym (ap (λ (b : Bool). cond b (k + 1) n) (ne_eqb n 0 full))) (settled w row (n - 1 + 1) (later_same w row (n - 1 + 1) (told_effect v row (n - 1))) (told_effect v row (n - 1)))))
+      (subst (Effect v (settle e.graph e.plan w) row) (let a : n - 1 + 1 ≡ n = omega (arith, full) in a ∙ sym (ap (λ (b : Bool). cond b (k + 1) n) (ne_eqb n 0 full))) (settled w row (n - 1 + 1) (told_effect v row (n - 1)))))
     where
       found : (r k n : ℕ) → n ≢ 0 → after_claim r k (claim_of k n) v ≡ record v { known = known.Row r (n - 1) ∷ v.known }
       found r k n full = ap (λ (b : Bool). after_claim r k (cond b claim.Made (cond (eqb n (k + 1)) claim.Found (claim.Other (key_of (n - 1))))) v) (ne_eqb n 0 full) ∙ dite (ℕ_discrete n (k + 1))
@@ -162,15 +182,19 @@ module _ (e : Setting) (v : View) (none : items is_later v ≡ 0) where
   look_full : (row n : ℕ) → n ≢ 0 → Effect v (settle e.graph e.plan (after_look e.graph e.shape.rows row n v)) row n
   look_full row n full = let w : View = record v { known = known.Row row (n - 1) ∷ v.known } in
       subst (λ u. Effect v (settle e.graph e.plan u) row n) (sym (ap (λ (b : Bool). cond b (change_top (skipped_items e.graph e.shape.rows row v.known) v) (record v { known = known.Row row (n - 1) ∷ v.known })) (ne_eqb n 0 full)))
-      (subst (Effect v (settle e.graph e.plan w) row) (let a : n - 1 + 1 ≡ n = omega (arith, full) in a) (settled w row (n - 1 + 1) (later_same w row (n - 1 + 1) (told_effect v row (n - 1))) (told_effect v row (n - 1))))
+      (subst (Effect v (settle e.graph e.plan w) row) (let a : n - 1 + 1 ≡ n = omega (arith, full) in a) (settled w row (n - 1 + 1) (told_effect v row (n - 1))))
 
-  look_empty : (row : ℕ) → settle e.graph e.plan (after_look e.graph e.shape.rows row 0 v) ≡ v
-  look_empty row = ap (settle e.graph e.plan) (nothing_skipped e.graph e.shape.rows row v none) ∙ nothing_settles e.graph e.plan v none
+  -- a look at an empty row takes at most a port that was to be entered again
+  look_empty : (row : ℕ) → Effect v (settle e.graph e.plan (after_look e.graph e.shape.rows row 0 v)) row (word_in row v.known)
+  look_empty row = settled (change_top (skipped_items e.graph e.shape.rows row v.known) v) row (word_in row v.known) (record {
+    its = λ q u. tops_same e.graph e.shape.rows row v.known q (λ a l y ys. u.entered a l ys ∙ sym (u.entered a l (y ∷ ys))) v.stacks;
+    knows = λ x ne. refl;
+    here = refl;
+  })
 
   look_effect : (row n : ℕ) → Effect v (settle e.graph e.plan (after_look e.graph e.shape.rows row n v)) row (cond (eqb n 0) (word_in row v.known) n)
   look_effect row n = dite (ℕ_discrete n 0)
-      (λ z. subst (λ m. Effect v (settle e.graph e.plan (after_look e.graph e.shape.rows row m v)) row (cond (eqb m 0) (word_in row v.known) m)) (sym z)
-      (subst (λ u. Effect v u row (word_in row v.known)) (sym (look_empty row)) (record { its = λ p q. refl; knows = λ x ne. refl; here = refl })))
+      (λ z. subst (λ m. Effect v (settle e.graph e.plan (after_look e.graph e.shape.rows row m v)) row (cond (eqb m 0) (word_in row v.known) m)) (sym z) (look_empty row))
       (λ full. subst (Effect v (settle e.graph e.plan (after_look e.graph e.shape.rows row n v)) row) (sym (ap (λ (b : Bool). cond b (word_in row v.known) n) (ne_eqb n 0 full))) (look_full row n full))
 
   -- the number that the row is known by after a claim or a look
@@ -189,22 +213,22 @@ module _ (e : Setting) (v : View) (none : items is_later v ≡ 0) where
   left_full (Some k) row n full = ap (λ (b : Bool). cond b (k + 1) n) (ne_eqb n 0 full)
 
 module _ (e : Setting) (i row : ℕ) (claimed : Option ℕ) (n : ℕ) (p q : Plain) (x : KeyStepped e i row claimed n p q) where
-  effect : Effect (view_at p i) (view_at q i) row (left_of e (view_at p i) (later_none e p i x.low x.before) claimed row n)
-  effect = subst (λ w. Effect (view_at p i) w row (left_of e (view_at p i) (later_none e p i x.low x.before) claimed row n)) (sym x.view_is) (any_effect e (view_at p i) (later_none e p i x.low x.before) row claimed n)
+  effect : Effect (view_at p i) (view_at q i) row (left_of e (view_at p i) claimed row n)
+  effect = subst (λ w. Effect (view_at p i) w row (left_of e (view_at p i) claimed row n)) (sym x.view_is) (any_effect e (view_at p i) row claimed n)
 
   pub may_stays : (k : ℕ) → Explores e (view_at p i) k → Explores e (view_at q i) k
-  may_stays k y = record { explorer = y.explorer; life = y.life; place = y.place; exploring = let a = effect.its (is_exploring y.explorer y.life y.place) (λ k l j. refl) in let b = y.exploring in omega (arith, a, b); is_place = y.is_place; names = y.names }
+  may_stays k y = record { explorer = y.explorer; life = y.life; place = y.place; exploring = let a = effect.its (is_exploring y.explorer y.life y.place) (exploring_lasts y.explorer y.life y.place) in let b = y.exploring in omega (arith, a, b); is_place = y.is_place; names = y.names }
 
   pub may_back : (k : ℕ) → Explores e (view_at q i) k → Explores e (view_at p i) k
-  may_back k y = record { explorer = y.explorer; life = y.life; place = y.place; exploring = let a = effect.its (is_exploring y.explorer y.life y.place) (λ k l j. refl) in let b = y.exploring in omega (arith, a, b); is_place = y.is_place; names = y.names }
+  may_back k y = record { explorer = y.explorer; life = y.life; place = y.place; exploring = let a = effect.its (is_exploring y.explorer y.life y.place) (exploring_lasts y.explorer y.life y.place) in let b = y.exploring in omega (arith, a, b); is_place = y.is_place; names = y.names }
 
   pub stands_stays : (k : ℕ) → Awaits e (view_at p i) k → Awaits e (view_at q i) k
-  stands_stays k (by_port a b z to) = by_port a b (let y = effect.its (notifies a b) (λ k l j. refl) in omega (arith, y, z)) to
-  stands_stays k (by_block a b z to) = by_block a b (let y = effect.its (suspects_block a b) (λ k l j. refl) in omega (arith, y, z)) to
+  stands_stays k (by_port a b z to) = by_port a b (let y = effect.its (notifies a b) (notifying_lasts a b) in omega (arith, y, z)) to
+  stands_stays k (by_block a b z to) = by_block a b (let y = effect.its (suspects_block a b) (blaming_lasts a b) in omega (arith, y, z)) to
 
   pub stands_back : (k : ℕ) → Awaits e (view_at q i) k → Awaits e (view_at p i) k
-  stands_back k (by_port a b z to) = by_port a b (let y = effect.its (notifies a b) (λ k l j. refl) in omega (arith, y, z)) to
-  stands_back k (by_block a b z to) = by_block a b (let y = effect.its (suspects_block a b) (λ k l j. refl) in omega (arith, y, z)) to
+  stands_back k (by_port a b z to) = by_port a b (let y = effect.its (notifies a b) (notifying_lasts a b) in omega (arith, y, z)) to
+  stands_back k (by_block a b z to) = by_block a b (let y = effect.its (suspects_block a b) (blaming_lasts a b) in omega (arith, y, z)) to
 
   pub stays : (k : ℕ) → known_of (view_at p i) row ≡ Some k → n ≡ k + 1
   stays k is = x.found_is ∙ stays_of e p i x.low x.before row k is
@@ -212,17 +236,17 @@ module _ (e : Setting) (i row : ℕ) (claimed : Option ℕ) (n : ℕ) (p q : Pla
   pub known_stays : (r k : ℕ) → known_of (view_at p i) r ≡ Some k → known_of (view_at q i) r ≡ Some k
   known_stays r k is = dite (ℕ_discrete r row)
       (λ z. let one : n ≡ k + 1 = stays k (subst (λ y. known_of (view_at p i) y ≡ Some k) z is) in
-      ap (λ y. known_of (view_at q i) y) z ∙ key_in-suc (word_in row (view_at q i).known) k (effect.here ∙ left_full e (view_at p i) (later_none e p i x.low x.before) claimed row n (λ y. omega (arith, y, one)) ∙ one))
+      ap (λ y. known_of (view_at q i) y) z ∙ key_in-suc (word_in row (view_at q i).known) k (effect.here ∙ left_full e (view_at p i) claimed row n (λ y. omega (arith, y, one)) ∙ one))
       (λ ne. ap key_in (effect.knows r ne) ∙ is)
 
   pub rules_after : HasRules e.shape.rows e.keys (Explores e (view_at q i)) (Awaits e (view_at q i)) (known_of (view_at q i))
   rules_after = rules_of e q i (let a = x.workers_are in let b = x.low in omega (arith, a, b)) x.afterwards
 
-  known_now : (k : ℕ) → left_of e (view_at p i) (later_none e p i x.low x.before) claimed row n ≡ k + 1 → known_of (view_at q i) row ≡ Some k
+  known_now : (k : ℕ) → left_of e (view_at p i) claimed row n ≡ k + 1 → known_of (view_at q i) row ≡ Some k
   known_now k is = key_in-suc (word_in row (view_at q i).known) k (effect.here ∙ is)
 
   full_now : (k : ℕ) → n ≡ k + 1 → known_of (view_at q i) row ≡ Some k
-  full_now k is = known_now k (left_full e (view_at p i) (later_none e p i x.low x.before) claimed row n (λ z. omega (arith, z, is)) ∙ is)
+  full_now k is = known_now k (left_full e (view_at p i) claimed row n (λ z. omega (arith, z, is)) ∙ is)
 
   pub learnt : (a : Seen) → SeenTells a n → Learns a (known_of (view_at q i) row)
   learnt Empty t = tt
@@ -230,7 +254,7 @@ module _ (e : Setting) (i row : ℕ) (claimed : Option ℕ) (n : ℕ) (p q : Pla
 
   pub claimed_now : (k : ℕ) (a : Claim) → claimed ≡ Some k → ClaimTells a k n → known_of (view_at q i) row ≡ Some (claimed_key a k)
   unfolding left_of
-  claimed_now k Made of t = known_now k (ap (λ o. left_of e (view_at p i) (later_none e p i x.low x.before) o row n) of ∙ ap (claim_left k) t)
+  claimed_now k Made of t = known_now k (ap (λ o. left_of e (view_at p i) o row n) of ∙ ap (claim_left k) t)
   claimed_now k Found of t = full_now k t
   claimed_now k (Other o) of t = full_now o.0 t.0
 

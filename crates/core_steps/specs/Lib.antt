@@ -1,3 +1,4 @@
 pub mod Seat
+pub mod Serving
 pub mod Kinds
 pub mod Table

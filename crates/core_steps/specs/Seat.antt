@@ -1,10 +1,12 @@
 -- What the caller of a table's key words is, where its view is known.
 use Rattle.std.specs.Prelude.{◌≡◌, ℕ, zero, suc, ◌<◌, List, Option, Some, None}
+use Rattle.core_state.specs.Change.{no_cells, cells_or, held_in}
 use Rattle.core_state.specs.Graph.{Setting}
 use Rattle.core_state.specs.Words.{Spot, key, place_of}
 use Rattle.core_state.specs.Counts.{items, is_exploring, notifies, suspects_block, word_in}
 use Rattle.core_state.specs.Kinds.{Event, Can, after}
 use Rattle.core_state.specs.Kinds.Event.{claim, look}
+use Rattle.core_state.specs.declared.block.BlockCells.{BlockCells}
 use Rattle.core_state.specs.declared.views.View.{View}
 
 -- the key that the number of a key word tells
@@ -58,3 +60,17 @@ pub record Trace : Type 0 where
   pub made : ℕ
   pub shown : ℕ × ℕ
   pub last : ℕ × ℕ
+
+-- what the view has in hand of a block
+abbrev pub hand_of : View → ℕ → BlockCells
+hand_of v b = cells_or no_cells (held_in b v.hands)
+
+-- the block, or one that was never written where there is none
+abbrev pub cells_in : Option BlockCells → BlockCells
+cells_in None = no_cells
+cells_in (Some x) = x
+
+-- a turn word of 0 gives the block, and one of 1 gives none
+abbrev pub TurnTells : Option BlockCells → ℕ → Type 0
+TurnTells None n = n ≡ 1
+TurnTells (Some x) n = n ≡ 0

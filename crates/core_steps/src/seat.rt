@@ -3,14 +3,17 @@ ghost use Rattle.std.proofs.Common.{refl};
 ghost use Rattle.std.specs.Prelude.{◌≡◌, ℕ, ◌<◌, ◌+◌, length, slice_index, slice_index_or, slice_set};
 ghost use Rattle.core_state.specs.Views.{blank};
 ghost use Rattle.core_steps.specs.Seat.{Explores, Awaits, known_of, IsKeyStep, Trace};
-ghost use Rattle.core_steps.specs.Table.{view_at, no_store};
+ghost use Rattle.core_steps.specs.Table.{view_at, spare_of};
 
 use crate::plain::PlainTable;
 use crate::steps::Steps;
 use crate::trace;
-use core_state::{Course, Job, Registered, Told};
+use core_state::{
+    BlockCells, Closing, Course, Descriptor, Elected, Hitting, Job, NotifyWord, Recovery,
+    Registered, Told,
+};
 use ghost_log::Ghost;
-use graph_model::Key;
+use graph_model::{Cause, Key};
 use key_table::{Claim, KeyWords, Seen};
 use std::alloc::AllocError;
 
@@ -78,7 +81,7 @@ impl<'a, C: Course> KeyWords for PlainSeat<'a, C> {
 
     ghost known = { λ s row. known_of (view_at s.table.now s.worker) row };
 
-    ghost spare = { λ s. (slice_index_or s.table.now.stores s.worker no_store).room };
+    ghost spare = { λ s. spare_of s.table.now s.worker };
 
     ghost made = { λ s. s.steps.made };
 
@@ -125,6 +128,33 @@ impl<'a, C: Course> Steps for PlainSeat<'a, C> {
 
     fn reserve(&mut self, n: u32) -> Result<(), AllocError> {
         self.table.reserve(self.worker, n)
+    }
+
+    #[tactic(auto, using(crate::proofs::Seats::set_twice))]
+    fn load_descriptor(&mut self, row: u32) -> Descriptor {
+        let at = self.table.descriptor_at(row);
+        let found = self.table.word(at);
+        let shown = self.table.load_descriptor(self.worker, row);
+        self.steps = stepped(&self.steps, at, found);
+        shown
+    }
+
+    #[tactic(auto, using(crate::proofs::Seats::set_twice))]
+    fn load_notify(&mut self, row: u32, word: u32) -> NotifyWord {
+        let at = self.table.notify_word_at(self.worker, row, word);
+        let found = self.table.word(at);
+        let shown = self.table.load_notify(self.worker, row, word);
+        self.steps = stepped(&self.steps, at, found);
+        shown
+    }
+
+    #[tactic(auto, using(crate::proofs::Seats::set_twice))]
+    fn load_recovery(&mut self, row: u32) -> Recovery {
+        let at = self.table.recovery_at(row);
+        let found = self.table.word(at);
+        let shown = self.table.load_recovery(self.worker, row);
+        self.steps = stepped(&self.steps, at, found);
+        shown
     }
 
     #[tactic(auto, using(crate::proofs::Seats::set_twice))]
@@ -176,6 +206,66 @@ impl<'a, C: Course> Steps for PlainSeat<'a, C> {
     }
 
     #[tactic(auto, using(crate::proofs::Seats::set_twice))]
+    fn close(&mut self, row: u32, life: u32, word: u32, seen: NotifyWord) -> Closing {
+        let at = self.table.notify_word_at(self.worker, row, word);
+        let found = self.table.word(at);
+        let told = self.table.close_word(self.worker, row, life, word, seen);
+        self.steps = stepped(&self.steps, at, found);
+        told
+    }
+
+    #[tactic(auto, using(crate::proofs::Seats::set_twice))]
+    fn elect(&mut self, row: u32, life: u32, cause: Cause) -> Elected {
+        let at = self.table.recovery_at(row);
+        let found = self.table.word(at);
+        let told = self.table.elect(self.worker, row, life, cause);
+        self.steps = stepped(&self.steps, at, found);
+        told
+    }
+
+    #[tactic(auto, using(crate::proofs::Seats::set_twice))]
+    fn renew_notify(&mut self, row: u32, word: u32) {
+        let at = self.table.notify_word_at(self.worker, row, word);
+        let found = self.table.word(at);
+        self.table.renew_notify(self.worker, row, word);
+        self.steps = stepped(&self.steps, at, found);
+    }
+
+    #[tactic(auto, using(crate::proofs::Seats::set_twice))]
+    fn renew_descriptor(&mut self, row: u32) {
+        let at = self.table.descriptor_at(row);
+        let found = self.table.word(at);
+        self.table.renew_descriptor(self.worker, row);
+        self.steps = stepped(&self.steps, at, found);
+    }
+
+    #[tactic(auto, using(crate::proofs::Seats::set_twice))]
+    fn finish(&mut self, row: u32) {
+        let at = self.table.recovery_at(row);
+        let found = self.table.word(at);
+        self.table.finish(self.worker, row);
+        self.steps = stepped(&self.steps, at, found);
+    }
+
+    #[tactic(auto, using(crate::proofs::Seats::set_twice))]
+    fn strike_descriptor(&mut self, row: u32) -> Hitting {
+        let at = self.table.descriptor_at(row);
+        let found = self.table.word(at);
+        let told = self.table.strike_descriptor(self.worker, row);
+        self.steps = stepped(&self.steps, at, found);
+        told
+    }
+
+    #[tactic(auto, using(crate::proofs::Seats::set_twice))]
+    fn strike_notify(&mut self, row: u32, word: u32) -> Hitting {
+        let at = self.table.notify_word_at(self.worker, row, word);
+        let found = self.table.word(at);
+        let told = self.table.strike_notify(self.worker, row, word);
+        self.steps = stepped(&self.steps, at, found);
+        told
+    }
+
+    #[tactic(auto, using(crate::proofs::Seats::set_twice))]
     fn buy(&mut self) {
         let found = self.table.pending();
         self.table.buy(self.worker);
@@ -187,6 +277,45 @@ impl<'a, C: Course> Steps for PlainSeat<'a, C> {
         let found = self.table.pending();
         self.table.drop_credit(self.worker);
         self.steps = stepped(&self.steps, 0, found);
+    }
+
+    #[tactic(auto, using(crate::proofs::Seats::set_twice))]
+    fn take_turn(&mut self, block: u32) -> Option<BlockCells> {
+        let at = self.table.turn_at(block);
+        let found = self.table.word(at);
+        let taken = self.table.take_turn(self.worker, block);
+        self.steps = stepped(&self.steps, at, found);
+        taken
+    }
+
+    #[tactic(auto, using(crate::proofs::Seats::set_twice))]
+    fn give_read(&mut self, block: u32, cells: BlockCells) {
+        let at = self.table.hand_at(self.worker, block);
+        let found = self.table.word(at);
+        self.table.give_read(self.worker, block, cells);
+        self.steps = stepped(&self.steps, at, found);
+    }
+
+    #[tactic(auto, using(crate::proofs::Seats::set_twice))]
+    fn computed(&mut self, key: Key, life: u32) {
+        self.table.computed(self.worker, key, life);
+    }
+
+    #[tactic(auto, using(crate::proofs::Seats::set_twice))]
+    fn give_written(&mut self, key: Key, life: u32, block: u32, cells: BlockCells) {
+        let at = self.table.hand_at(self.worker, block);
+        let found = self.table.word(at);
+        self.table
+            .give_written(self.worker, key, life, block, cells);
+        self.steps = stepped(&self.steps, at, found);
+    }
+
+    #[tactic(auto, using(crate::proofs::Seats::set_twice))]
+    fn give_struck(&mut self, key: Key, life: u32, block: u32, cells: BlockCells) {
+        let at = self.table.hand_at(self.worker, block);
+        let found = self.table.word(at);
+        self.table.give_struck(self.worker, key, life, block, cells);
+        self.steps = stepped(&self.steps, at, found);
     }
 
     #[tactic(auto, using(crate::proofs::Seats::set_twice))]

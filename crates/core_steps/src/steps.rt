@@ -1,19 +1,24 @@
-use core_state::{Job, Registered, Told};
+use core_state::{
+    BlockCells, Closing, Descriptor, Elected, Hitting, Job, NotifyWord, Recovery, Registered, Told,
+};
+use graph_model::{Cause, Key};
 use key_table::KeyWords;
 use std::alloc::AllocError;
 
 /// A seat at a table: one call for each kind of step, stated on what the seat knows and holds. A step is
 /// on one word, and no step waits or takes memory. What a word held in a step is told by `shown`.
 pub trait Steps: KeyWords {
-    ghost use Rattle.std.specs.Prelude.{◌≡◌, ◌≤◌, ◌+◌, ◌/◌, ◌==◌, ℕ, List, Option, OnOk};
+    ghost use Rattle.std.specs.Prelude.{◌≡◌, ◌≤◌, ◌+◌, ◌/◌, ◌==◌, ℕ, List, Option, IfSome, OnOk, length, ◌<◌, ◌^◌, false};
     ghost use Rattle.core_state.specs.Graph.{Setting};
-    ghost use Rattle.core_state.specs.Words.{descriptor, notify, pending, stop as stop_word, posted};
+    ghost use Rattle.core_state.specs.Words.{descriptor, notify, recovery, pending, stop as stop_word, posted, turn};
     ghost use Rattle.core_state.specs.Counts.{known_key};
     ghost use Rattle.core_state.specs.Kinds.{after, Event as event};
-    ghost use Rattle.core_state.specs.Calls.{CanBuy, CanDropCredit, CanPost, CanRegister, CanSpend, KnowsRow};
-    ghost use Rattle.core_state.specs.Events.{registered_of, told_of};
+    ghost use Rattle.core_state.specs.Calls.{CanBuy, CanClose, CanCompute, CanDropCredit, CanElect, CanFinish, CanGiveStruck, CanGiveWritten, CanLoadNotify, CanPost, CanRegister, CanRenewDescriptor, CanRenewNotify, CanSpend, CanStrikeDescriptor, CanStrikeNotify, CanTakeTurn, InHand, KnowsRow};
+    ghost use Rattle.core_state.specs.Events.{after_computed, closing_of, elected_of, hitting_of, registered_of, told_of};
+    ghost use Rattle.core_state.specs.Packed.{descriptor_of, notify_of, notify_word, recovery_of};
     ghost use Rattle.core_state.specs.declared.views.View.{View};
-    ghost use Rattle.core_steps.specs.Seat.{Explores, Awaits, known_of, IsKeyStep, IsSameTable, Shows};
+    ghost use Rattle.core_steps.specs.Seat.{Explores, Awaits, known_of, IsKeyStep, IsSameTable, Shows, TurnTells, cells_in, hand_of};
+    ghost use Rattle.core_steps.specs.Serving.{work_life, work_waits};
 
     // What is fixed for the table: its graph, its shape, the plan of strikes and the greatest life.
     ghost setting: { Self → Setting };
@@ -37,6 +42,42 @@ pub trait Steps: KeyWords {
         ensures view { view self.new ≡ view self.old }
         ensures made { Self.made self.new ≡ Self.made self.old }
         ensures shown { shown self.new ≡ shown self.old }
+        ensures last { Self.last self.new ≡ Self.last self.old }
+        ensures table { IsSameTable setting lender others self.old self.new };
+
+    /// What the descriptor of a row shows.
+    fn load_descriptor(&mut self, row: u32) -> Descriptor
+        requires can { KnowsRow (setting self.old) (view self.old) row (known_key row (view self.old)) }
+        requires room { 1 ≤ Self.spare self.old }
+        ensures shows { result ≡ descriptor_of (shown self.new).1 }
+        ensures word { Shows (setting self.old) (descriptor row) (shown self.new) }
+        ensures view { view self.new ≡ after (setting self.old) (event.load_descriptor row (known_key row (view self.old))) (shown self.new).1 (view self.old) }
+        ensures made { Self.made self.new ≡ Self.made self.old + 1 }
+        ensures room { Self.spare self.old ≤ Self.spare self.new + 1 }
+        ensures last { Self.last self.new ≡ Self.last self.old }
+        ensures table { IsSameTable setting lender others self.old self.new };
+
+    /// What a notify word of a row shows, which its task has.
+    fn load_notify(&mut self, row: u32, word: u32) -> NotifyWord
+        requires can { CanLoadNotify (setting self.old) (view self.old) row (known_key row (view self.old)) word }
+        requires room { 1 ≤ Self.spare self.old }
+        ensures shows { result ≡ notify_of (shown self.new).1 }
+        ensures word { Shows (setting self.old) (notify row word) (shown self.new) }
+        ensures view { view self.new ≡ after (setting self.old) (event.load_notify row (known_key row (view self.old)) word) (shown self.new).1 (view self.old) }
+        ensures made { Self.made self.new ≡ Self.made self.old + 1 }
+        ensures room { Self.spare self.old ≤ Self.spare self.new + 1 }
+        ensures last { Self.last self.new ≡ Self.last self.old }
+        ensures table { IsSameTable setting lender others self.old self.new };
+
+    /// What the recovery word of a row shows.
+    fn load_recovery(&mut self, row: u32) -> Recovery
+        requires can { KnowsRow (setting self.old) (view self.old) row (known_key row (view self.old)) }
+        requires room { 1 ≤ Self.spare self.old }
+        ensures shows { result ≡ recovery_of (shown self.new).1 }
+        ensures word { Shows (setting self.old) (recovery row) (shown self.new) }
+        ensures view { view self.new ≡ after (setting self.old) (event.load_recovery row (known_key row (view self.old))) (shown self.new).1 (view self.old) }
+        ensures made { Self.made self.new ≡ Self.made self.old + 1 }
+        ensures room { Self.spare self.old ≤ Self.spare self.new + 1 }
         ensures last { Self.last self.new ≡ Self.last self.old }
         ensures table { IsSameTable setting lender others self.old self.new };
 
@@ -112,6 +153,88 @@ pub trait Steps: KeyWords {
         ensures last { Self.last self.new ≡ Self.last self.old }
         ensures table { IsSameTable setting lender others self.old self.new };
 
+    /// Closes a notify word of a life, which was seen open and unmarked, where it is still as it was seen.
+    /// Then it answers the ports that were registered. Else a marked word is told first, and then a later life.
+    fn close(&mut self, row: u32, life: u32, word: u32, seen: NotifyWord) -> Closing
+        requires can { CanClose (setting self.old) (view self.old) row (known_key row (view self.old)) life word (notify_word seen) }
+        requires life { seen.life ≡ life }
+        requires ports { seen.ports < 2 ^ 40 }
+        requires room { 1 ≤ Self.spare self.old }
+        ensures told { result ≡ closing_of life (notify_word seen) (shown self.new).1 }
+        ensures word { Shows (setting self.old) (notify row word) (shown self.new) }
+        ensures view { view self.new ≡ after (setting self.old) (event.close row (known_key row (view self.old)) life word (notify_word seen)) (shown self.new).1 (view self.old) }
+        ensures made { Self.made self.new ≡ Self.made self.old + 1 }
+        ensures room { Self.spare self.old ≤ Self.spare self.new + 1 }
+        ensures last { Self.last self.new ≡ Self.last self.old }
+        ensures table { IsSameTable setting lender others self.old self.new };
+
+    /// Elects this view to replace a life that it suspects for this cause, where the life stands. Else a
+    /// later life is told where there is one, or which life is being replaced.
+    fn elect(&mut self, row: u32, life: u32, cause: Cause) -> Elected
+        requires can { CanElect (setting self.old) (view self.old) row (known_key row (view self.old)) life cause (work_waits (view self.old)) }
+        requires room { 1 ≤ Self.spare self.old }
+        ensures told { result ≡ elected_of life (shown self.new).1 }
+        ensures word { Shows (setting self.old) (recovery row) (shown self.new) }
+        ensures view { view self.new ≡ after (setting self.old) (event.elect row (known_key row (view self.old)) life cause (work_waits (view self.old))) (shown self.new).1 (view self.old) }
+        ensures made { Self.made self.new ≡ Self.made self.old + 1 }
+        ensures room { Self.spare self.old ≤ Self.spare self.new + 1 }
+        ensures last { Self.last self.new ≡ Self.last self.old }
+        ensures table { IsSameTable setting lender others self.old self.new };
+
+    /// Renews a notify word for the life after the one at work.
+    fn renew_notify(&mut self, row: u32, word: u32)
+        requires can { CanRenewNotify (setting self.old) (view self.old) row (known_key row (view self.old)) (work_life (view self.old)) word }
+        ensures word { Shows (setting self.old) (notify row word) (shown self.new) }
+        ensures view { view self.new ≡ after (setting self.old) (event.renew_notify row (known_key row (view self.old)) (work_life (view self.old)) word) (shown self.new).1 (view self.old) }
+        ensures made { Self.made self.new ≡ Self.made self.old + 1 }
+        ensures room { Self.spare self.new ≡ Self.spare self.old }
+        ensures last { Self.last self.new ≡ Self.last self.old }
+        ensures table { IsSameTable setting lender others self.old self.new };
+
+    /// Renews the descriptor for the life after the one at work, all of whose notify words were renewed.
+    fn renew_descriptor(&mut self, row: u32)
+        requires can { CanRenewDescriptor (setting self.old) (view self.old) row (known_key row (view self.old)) (work_life (view self.old)) }
+        ensures word { Shows (setting self.old) (descriptor row) (shown self.new) }
+        ensures view { view self.new ≡ after (setting self.old) (event.renew_descriptor row (known_key row (view self.old)) (work_life (view self.old))) (shown self.new).1 (view self.old) }
+        ensures made { Self.made self.new ≡ Self.made self.old + 1 }
+        ensures room { Self.spare self.new ≡ Self.spare self.old }
+        ensures last { Self.last self.new ≡ Self.last self.old }
+        ensures table { IsSameTable setting lender others self.old self.new };
+
+    /// Lets the life after the one at work stand, all of whose words were renewed.
+    fn finish(&mut self, row: u32)
+        requires can { CanFinish (setting self.old) (view self.old) row (known_key row (view self.old)) (work_life (view self.old)) }
+        ensures word { Shows (setting self.old) (recovery row) (shown self.new) }
+        ensures view { view self.new ≡ after (setting self.old) (event.finish row (known_key row (view self.old)) (work_life (view self.old))) (shown self.new).1 (view self.old) }
+        ensures made { Self.made self.new ≡ Self.made self.old + 1 }
+        ensures room { Self.spare self.new ≡ Self.spare self.old }
+        ensures last { Self.last self.new ≡ Self.last self.old }
+        ensures table { IsSameTable setting lender others self.old self.new };
+
+    /// Makes the next strike of the plan, on the descriptor of its key. It misses a marked word.
+    fn strike_descriptor(&mut self, row: u32) -> Hitting
+        requires can { CanStrikeDescriptor (setting self.old) (view self.old) row (known_key row (view self.old)) (work_life (view self.old)) }
+        requires room { 1 ≤ Self.spare self.old }
+        ensures told { result ≡ hitting_of (shown self.new).1 }
+        ensures word { Shows (setting self.old) (descriptor row) (shown self.new) }
+        ensures view { view self.new ≡ after (setting self.old) (event.strike_descriptor row (known_key row (view self.old)) (work_life (view self.old))) (shown self.new).1 (view self.old) }
+        ensures made { Self.made self.new ≡ Self.made self.old + 1 }
+        ensures room { Self.spare self.old ≤ Self.spare self.new + 1 }
+        ensures last { Self.last self.new ≡ Self.last self.old }
+        ensures table { IsSameTable setting lender others self.old self.new };
+
+    /// Makes the next strike of the plan, on a notify word of its key. It misses a marked word.
+    fn strike_notify(&mut self, row: u32, word: u32) -> Hitting
+        requires can { CanStrikeNotify (setting self.old) (view self.old) row (known_key row (view self.old)) (work_life (view self.old)) word }
+        requires room { 1 ≤ Self.spare self.old }
+        ensures told { result ≡ hitting_of (shown self.new).1 }
+        ensures word { Shows (setting self.old) (notify row word) (shown self.new) }
+        ensures view { view self.new ≡ after (setting self.old) (event.strike_notify row (known_key row (view self.old)) (work_life (view self.old)) word) (shown self.new).1 (view self.old) }
+        ensures made { Self.made self.new ≡ Self.made self.old + 1 }
+        ensures room { Self.spare self.old ≤ Self.spare self.new + 1 }
+        ensures last { Self.last self.new ≡ Self.last self.old }
+        ensures table { IsSameTable setting lender others self.old self.new };
+
     /// Buys a spare credit.
     fn buy(&mut self)
         requires can { CanBuy (setting self.old) (view self.old) }
@@ -129,6 +252,65 @@ pub trait Steps: KeyWords {
         requires room { 1 ≤ Self.spare self.old }
         ensures word { Shows (setting self.old) pending (shown self.new) }
         ensures view { view self.new ≡ after (setting self.old) event.drop_credit (shown self.new).1 (view self.old) }
+        ensures made { Self.made self.new ≡ Self.made self.old + 1 }
+        ensures room { Self.spare self.old ≤ Self.spare self.new + 1 }
+        ensures last { Self.last self.new ≡ Self.last self.old }
+        ensures table { IsSameTable setting lender others self.old self.new };
+
+    /// Takes a block, which then is in hand, with as many cells as the graph says; unstruck, it holds the
+    /// value of its version. Answers None exactly where another seat has it.
+    fn take_turn(&mut self, block: u32) -> Option<BlockCells>
+        requires can { CanTakeTurn (setting self.old) (view self.old) block }
+        requires room { 1 ≤ Self.spare self.old }
+        ensures tells { TurnTells result (shown self.new).1 }
+        ensures cells { IfSome result (λ x. length x.cells ≡ (setting self.old).graph.cells block) }
+        ensures value { IfSome result (λ x. x.struck ≡ false → 0 < x.tag → x.cells ≡ (setting self.old).graph.value ((setting self.old).graph.writer block x.tag)) }
+        ensures word { Shows (setting self.old) (turn block) (shown self.new) }
+        ensures view { view self.new ≡ after (setting self.old) (event.take_turn block (cells_in result)) (shown self.new).1 (view self.old) }
+        ensures made { Self.made self.new ≡ Self.made self.old + 1 }
+        ensures room { Self.spare self.old ≤ Self.spare self.new + 1 }
+        ensures last { Self.last self.new ≡ Self.last self.old }
+        ensures table { IsSameTable setting lender others self.old self.new };
+
+    /// Gives the block in hand back as it was taken.
+    fn give_read(&mut self, block: u32, cells: BlockCells)
+        requires can { InHand (view self.old) block cells }
+        requires room { 1 ≤ Self.spare self.old }
+        ensures word { Shows (setting self.old) (turn block) (shown self.new) }
+        ensures view { view self.new ≡ after (setting self.old) (event.give_read block cells) (shown self.new).1 (view self.old) }
+        ensures made { Self.made self.new ≡ Self.made self.old + 1 }
+        ensures room { Self.spare self.old ≤ Self.spare self.new + 1 }
+        ensures last { Self.last self.new ≡ Self.last self.old }
+        ensures table { IsSameTable setting lender others self.old self.new };
+
+    /// Notes that the result of a life was made, from all inputs. This is no step, and no word changes.
+    fn computed(&mut self, key: Key, life: u32)
+        requires can { CanCompute (setting self.old) (view self.old) key.0 life }
+        requires room { 1 ≤ Self.spare self.old }
+        ensures view { view self.new ≡ after_computed key.0 life (view self.old) }
+        ensures made { Self.made self.new ≡ Self.made self.old }
+        ensures shown { shown self.new ≡ shown self.old }
+        ensures room { Self.spare self.old ≤ Self.spare self.new + 1 }
+        ensures last { Self.last self.new ≡ Self.last self.old }
+        ensures table { IsSameTable setting lender others self.old self.new };
+
+    /// Gives the block in hand back, which holds the result of this life now.
+    fn give_written(&mut self, key: Key, life: u32, block: u32, cells: BlockCells)
+        requires can { CanGiveWritten (setting self.old) (view self.old) key.0 life block (hand_of (view self.old) block) cells }
+        requires room { 1 ≤ Self.spare self.old }
+        ensures word { Shows (setting self.old) (turn block) (shown self.new) }
+        ensures view { view self.new ≡ after (setting self.old) (event.give_written key.0 life block (hand_of (view self.old) block) cells) (shown self.new).1 (view self.old) }
+        ensures made { Self.made self.new ≡ Self.made self.old + 1 }
+        ensures room { Self.spare self.old ≤ Self.spare self.new + 1 }
+        ensures last { Self.last self.new ≡ Self.last self.old }
+        ensures table { IsSameTable setting lender others self.old self.new };
+
+    /// Gives the block in hand back with the mark of the next strike and with each cell complemented.
+    fn give_struck(&mut self, key: Key, life: u32, block: u32, cells: BlockCells)
+        requires can { CanGiveStruck (setting self.old) (view self.old) key.0 life block (hand_of (view self.old) block) cells }
+        requires room { 1 ≤ Self.spare self.old }
+        ensures word { Shows (setting self.old) (turn block) (shown self.new) }
+        ensures view { view self.new ≡ after (setting self.old) (event.give_struck key.0 life block (hand_of (view self.old) block) cells) (shown self.new).1 (view self.old) }
         ensures made { Self.made self.new ≡ Self.made self.old + 1 }
         ensures room { Self.spare self.old ≤ Self.spare self.new + 1 }
         ensures last { Self.last self.new ≡ Self.last self.old }

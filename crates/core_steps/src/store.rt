@@ -19,7 +19,7 @@ impl Model for Store {
 }
 
 impl Store {
-    ghost use Rattle.std.specs.Prelude.{◌≡◌, ◌≤◌, ◌<◌, [], OnOk};
+    ghost use Rattle.std.specs.Prelude.{◌≡◌, ◌≤◌, ◌<◌, ◌+◌, ◌++◌, [], length, OnOk};
     ghost use Rattle.core_steps.specs.Table.{with_record};
 
     pub(crate) fn new(alloc: Global) -> Store
@@ -44,6 +44,15 @@ impl Store {
         ensures { self.new ≡ with_record self.old entry }
     {
         self.records.push_reserved(entry);
+    }
+
+    /// Notes these records in the room that there is.
+    pub(crate) fn note_all(&mut self, records: &[Record])
+        requires { length records.now ≤ self.old.room }
+        ensures records { self.new.records ≡ self.old.records ++ records.now }
+        ensures room { self.old.room ≤ self.new.room + length records.now }
+    {
+        let _ = self.records.extend_from_slice(records);
     }
 
     /// A store with these records.

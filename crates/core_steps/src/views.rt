@@ -1,6 +1,6 @@
 //! What the workers know and hold. It has no bytes.
-use crate::kinds::Kind;
-use core_state::Course;
+use crate::kinds::{BlockKind, Kind};
+use core_state::{BlockCells, Course};
 use ghost_log::{Ghost, Gives};
 use std::marker::{Model, PhantomData};
 
@@ -37,6 +37,43 @@ impl<'a, C: Course> Gives<Stepping<'a>, Views> for Stepped<C> {
     ghost use Rattle.core_steps.specs.Table.{view_in};
 
     ghost value = { λ s. slice_set s.before.now s.worker (after C.setting (event_of (view_in s.before.now s.worker) s.kind) s.found (view_in s.before.now s.worker)) };
+}
+
+/// The views before a block is taken or given, and what it holds then.
+#[derive(Drop)]
+pub(crate) struct BlockStepping<'a> {
+    pub(crate) before: &'a Ghost<Views>,
+    pub(crate) worker: usize,
+    pub(crate) kind: BlockKind,
+    pub(crate) block: u32,
+    pub(crate) cells: &'a BlockCells,
+    pub(crate) found: u64,
+}
+
+impl<'a, C: Course> Gives<BlockStepping<'a>, Views> for Stepped<C> {
+    ghost use Rattle.std.specs.Prelude.{slice_set};
+    ghost use Rattle.core_state.specs.Kinds.{after};
+    ghost use Rattle.core_steps.specs.Kinds.{block_event};
+    ghost use Rattle.core_steps.specs.Table.{view_in};
+
+    ghost value = { λ s. slice_set s.before.now s.worker (after C.setting (block_event (view_in s.before.now s.worker) s.kind s.block s.cells.now) s.found (view_in s.before.now s.worker)) };
+}
+
+/// The views before a result was made, and whose it is.
+#[derive(Drop)]
+pub(crate) struct Computing<'a> {
+    pub(crate) before: &'a Ghost<Views>,
+    pub(crate) worker: usize,
+    pub(crate) key: u64,
+    pub(crate) life: u32,
+}
+
+impl<'a, C: Course> Gives<Computing<'a>, Views> for Stepped<C> {
+    ghost use Rattle.std.specs.Prelude.{slice_set};
+    ghost use Rattle.core_state.specs.Events.{after_computed};
+    ghost use Rattle.core_steps.specs.Table.{view_in};
+
+    ghost value = { λ s. slice_set s.before.now s.worker (after_computed s.key s.life (view_in s.before.now s.worker)) };
 }
 
 /// The views at the beginning.

@@ -1,8 +1,8 @@
 -- The first store has the records of all, and the others none.
-use Rattle.std.proofs.Common.{◌<◌, length, ap, sym, ◌∙◌, arith}
+use Rattle.std.proofs.Common.{◌<◌, length, set, ap, sym, ◌∙◌, arith}
 use Rattle.core_state.specs.Counts.{count}
 use Rattle.core_steps.specs.Table.{Plain, IsAll, stored}
-use Rattle.core_steps.proofs.Growing.{gathered_all, gathered_is, sound_gathered}
+use Rattle.core_steps.proofs.Growing.{gathered_all, gathered_is, gathered_room, sound_gathered}
 use Rattle.core_steps.proofs.plain.PlainTable.gather.Goals as goal
 
 pub invariant_of-self : goal.invariant_of-self
@@ -18,3 +18,7 @@ returns-clause-records g c p = let low : 0 < length c.in_ok-stores.stores.items 
 pub returns-clause-ok : goal.returns-clause-ok
 returns-clause-ok g c = let low : 0 < length c.in_ok-stores.stores.items = let a = c.in_ok-stores.ensures.length in let b = c.worker_count-workers.ensures.some in omega (arith, a, b) in
     gathered_is c.in_ok-stores.stores.items c.of.result low c.in_ok-stores.ensures.bare
+
+pub returns-clause-room : goal.returns-clause-room
+returns-clause-room g c = let low : 0 < length c.in_ok-stores.stores.items = let a = c.in_ok-stores.ensures.length in let b = c.worker_count-workers.ensures.some in omega (arith, a, b) in
+    gathered_room (set c.in_ok-stores.stores.items 0 c.of.result) (gathered_is c.in_ok-stores.stores.items c.of.result low c.in_ok-stores.ensures.bare)
