@@ -1,0 +1,153 @@
+-- What the turn of a block leaves of a strike that the view makes next.
+use Rattle.std.proofs.Common.{◌≡◌, ◌∙◌, ℕ, ◌<◌, ⊎_elim, Bool, true, false, cond, eqb, eq-eqb, nat_lt, nat_eq, ◌&&◌, List, [], ◌∷◌, length, ap, sym, subst, refl, arith}
+use mathlib.Core.Option.{Option, some, none, some-ne-none}
+use Rattle.std.proofs.lemmas.Bool.{eqb-true, lt-ltb}
+use Rattle.core_state.proofs.Cases.{two_tells}
+use Rattle.core_state.proofs.PassingPoints.{left_none}
+use Rattle.core_state.proofs.Striking.{next_strike_is}
+use Rattle.core_state.specs.Counts.{carries, job_of}
+use Rattle.core_state.specs.Events.{is_good, missed, missed_by}
+use Rattle.core_state.specs.Graph.{Graph, Plan, Setting}
+use Rattle.core_state.specs.Kinds.{after, Event as event}
+use Rattle.core_state.specs.Views.{is_finished, none_left, on_top, passing, settle, strike_at, strike_next, strike_of, top_items, unfinished}
+use Rattle.core_state.specs.declared.block.BlockCells.{BlockCells}
+use Rattle.core_state.specs.declared.job.Job.{Job}
+use Rattle.core_state.specs.declared.job.Job.TheVariants as job
+use Rattle.core_state.specs.declared.views.Item.{Item}
+use Rattle.core_state.specs.declared.views.Item.TheVariants as item
+use Rattle.core_state.specs.declared.views.Stack.{Stack}
+use Rattle.core_state.specs.declared.views.View.{View}
+use Rattle.graph_model.specs.declared.plan.Point.TheVariants as point
+use Rattle.graph_model.specs.declared.plan.Strike.{Strike}
+use Rattle.graph_model.specs.declared.plan.Target.{Target}
+use Rattle.graph_model.specs.declared.plan.Target.TheVariants as target
+use Rattle.block_store.specs.Turned.{BlowLeaves, IsBusy, IsTaken, StrikesNext, blow_of, strikes_of, struck_home}
+use Rattle.block_store.specs.declared.answers.Blow.{Blow}
+use Rattle.block_store.specs.declared.answers.Blow.TheVariants as blow
+
+-- the strike on a block that doesn't hold the version unstruck is one that misses
+misses_here : (g : Graph) (b version : ℕ) (x : BlockCells) (s : Strike) → s.target ≡ target.Block → b ≡ g.block s.key.0 → version ≡ g.version s.key.0 → is_good version x ≡ false → missed g b x s ≡ true
+misses_here g b version x s on here of bad =
+    let by_target : Target → Bool = λ t. missed g b x (record s { target = t }) in
+    let other : is_good (g.version s.key.0) x ≡ false = ap (λ (v : ℕ). is_good v x) (sym of) ∙ bad in
+    ap by_target on ∙ ap (λ (q : Bool). q && cond (is_good (g.version s.key.0) x) false true) (eq-eqb b (g.block s.key.0) here) ∙ ap (λ (q : Bool). cond q false true) other
+
+-- so it is made
+pub misses : (e : Setting) (v : View) (b k l version n : ℕ) (x : BlockCells) → StrikesNext e v b k l version → is_good version x ≡ false → strike_next e.graph e.plan v ≡ some n → missed_by e.graph e.plan b x (strike_next e.graph e.plan v) v.strikes ≡ n ∷ v.strikes
+misses e v b k l version n x h bad next =
+    let m = h.strikes in
+    let same : n ≡ m.strike = let f : some n ≡ some m.strike = sym next ∙ m.is_next in cc in
+    let here : b ≡ e.graph.block (e.plan.strike m.strike).key.0 = h.block_is ∙ ap e.graph.block (sym m.of_key) in
+    let of : version ≡ e.graph.version (e.plan.strike m.strike).key.0 = h.version_is ∙ ap e.graph.version (sym m.of_key) in
+    let by : missed_by e.graph e.plan b x (some m.strike) v.strikes ≡ m.strike ∷ v.strikes = ap (λ (q : Bool). cond q (m.strike ∷ v.strikes) v.strikes) (misses_here e.graph b version x (e.plan.strike m.strike) m.on_target here of bad) in
+    ap (λ (o : Option ℕ). missed_by e.graph e.plan b x o v.strikes) m.is_next ∙ by ∙ ap (λ (i : ℕ). i ∷ v.strikes) (sym same)
+
+-- a closing that carries a job is of the job's task
+carried_key : (j : Job) (m d k l w : ℕ) → carries j m d (item.Close k l w) ≡ true → m ≡ k
+carried_key job.Explore m d k l w h = absurd (let f : false ≡ true = h in cc)
+carried_key job.Compute m d k l w h = ⊎_elim (λ q. absurd (let f : true ≡ false = sym h ∙ q in cc)) (λ q. q.1) (two_tells m d k l)
+
+-- an item at which a strike is next isn't finished, if the task of a closing has a notify word
+not_finished : (g : Graph) (p : Plan) (made : List ℕ) (x : Item) (n : ℕ) → ((k l w : ℕ) → x ≡ item.Close k l w → 0 < g.notify_words k) → strike_at g p made (passing g x) ≡ some n → is_finished g p made x ≡ false
+not_finished g p made (item.Close k l w) n some_word next = by (nat_lt w (g.notify_words k)) (nat_eq w 0) refl refl next
+  where
+    by : (q z : Bool) → nat_lt w (g.notify_words k) ≡ q → nat_eq w 0 ≡ z → strike_at g p made (cond z (some (record { at = point.Computed; key = k; life = l })) (cond q none (some (record { at = point.Notified; key = k; life = l })))) ≡ some n → cond q false (none_left g p point.Notified k l made) ≡ false
+    by true z e f h = refl
+    by false true e f h = absurd (let low : 0 < g.notify_words k = some_word k l w refl in let first : w ≡ 0 = eqb-true w 0 f in let more : nat_lt w (g.notify_words k) ≡ true = lt-ltb w (g.notify_words k) (omega (arith, low, first)) in let z : true ≡ false = sym more ∙ e in cc)
+    by false false e f h = left (none_left g p point.Notified k l made) refl
+      where
+        left : (b : Bool) → none_left g p point.Notified k l made ≡ b → b ≡ false
+        left true is = absurd (some-ne-none n (sym h ∙ left_none g p point.Notified k l made is))
+        left false is = refl
+not_finished g p made (item.Notify k l w []) n some_word next = absurd (some-ne-none n (sym next))
+not_finished g p made (item.Reenter k l []) n some_word next = absurd (some-ne-none n (sym next))
+not_finished g p made x n some_word next = refl
+
+module _ (e : Setting) (v w : View) (b : ℕ) where
+  top_of : (f : List Item → List Item) (ss : List Stack) → f [] ≡ [] → top_items (on_top f ss) ≡ f (top_items ss)
+  top_of f [] h = sym h
+  top_of f (s ∷ ss) h = refl
+
+  -- taking a block leaves the view with the same strike next
+  takes_strike : (x : BlockCells) (i n : ℕ) → w ≡ after e (event.take_turn b x) i v → strike_next e.graph e.plan v ≡ some n → 0 < e.graph.notify_words (e.plan.strike n).key.0 → strike_next e.graph e.plan w ≡ some n
+  takes_strike x i n h next some_word =
+      let s = next_strike_is e v n next in
+      let a = s.work in
+      let tops : top_items v.stacks ≡ s.at ∷ a.below = ap top_items a.stacks_are ∙ a.items_are in
+      let at : strike_at e.graph e.plan v.strikes (passing e.graph s.at) ≡ some n = ap (strike_of e.graph e.plan v.strikes) (sym tops) ∙ next in
+      let known : (k l c : ℕ) → s.at ≡ item.Close k l c → 0 < e.graph.notify_words k = λ k l c is.
+      let carried : carries (job_of (e.plan.strike n).point) (e.plan.strike n).key.0 (e.plan.strike n).life (item.Close k l c) ≡ true = ap (carries (job_of (e.plan.strike n).point) (e.plan.strike n).key.0 (e.plan.strike n).life) (sym is) ∙ s.carried in
+      let P : ℕ → Type 0 = λ y. 0 < e.graph.notify_words y in subst P (carried_key (job_of (e.plan.strike n).point) _ _ _ _ _ carried) some_word in
+      let there = not_finished e.graph e.plan v.strikes s.at n known at in
+      let stays : unfinished e.graph e.plan v.strikes (top_items v.stacks) ≡ top_items v.stacks = ap (unfinished e.graph e.plan v.strikes) tops ∙ ap (λ (q : Bool). cond q (unfinished e.graph e.plan v.strikes a.below) (s.at ∷ a.below)) there ∙ sym tops in
+      ap (strike_next e.graph e.plan) h ∙ by (eqb i 0) ∙ ap (strike_of e.graph e.plan v.strikes) (top_of (unfinished e.graph e.plan v.strikes) v.stacks refl ∙ stays) ∙ next
+    where
+      by : (q : Bool) → strike_next e.graph e.plan (settle e.graph e.plan (cond q (record v { hands = record { block = b; held = x } ∷ v.hands }) v)) ≡ strike_of e.graph e.plan v.strikes (top_items (on_top (unfinished e.graph e.plan v.strikes) v.stacks))
+      by true = refl
+      by false = refl
+
+  -- and no other strike made
+  pub takes_strikes : (x : BlockCells) (i : ℕ) → w ≡ after e (event.take_turn b x) i v → w.strikes ≡ v.strikes
+  takes_strikes x i h = ap (λ (u : View). u.strikes) h ∙ by (eqb i 0)
+    where
+      by : (q : Bool) → (settle e.graph e.plan (cond q (record v { hands = record { block = b; held = x } ∷ v.hands }) v)).strikes ≡ v.strikes
+      by true = refl
+      by false = refl
+
+  pub takes_next_strike : (f : Setting) (x : BlockCells) (i k l version : ℕ) → f ≡ e → w ≡ after e (event.take_turn b x) i v → 0 < e.graph.notify_words k → StrikesNext e v b k l version → StrikesNext f w b k l version
+  takes_next_strike f x i k l version same h some_word s =
+      let m = s.strikes in
+      let known : 0 < e.graph.notify_words (e.plan.strike m.strike).key.0 = let P : ℕ → Type 0 = λ y. 0 < e.graph.notify_words y in subst P (sym m.of_key) some_word in
+      let P : Setting → Type 0 = λ g. StrikesNext g w b k l version in
+      subst P (sym same) (record {
+        strikes = record { strike = m.strike; is_next = takes_strike x i m.strike h m.is_next known; of_key = m.of_key; of_life = m.of_life; on_target = m.on_target };
+        block_is = s.block_is;
+        version_is = s.version_is;
+      })
+
+  -- the strike that was next is made by the second step
+  pub takes_made : (f : Setting) (x y : BlockCells) (i k l version n : ℕ) (answer : Blow) (made : List ℕ) → f ≡ e → w ≡ after e (event.take_turn b x) i v → 0 < e.graph.notify_words k → StrikesNext e v b k l version → strike_next e.graph e.plan v ≡ some n → answer ≡ blow_of version y → ((m : ℕ) → strike_next f.graph f.plan w ≡ some m → made ≡ m ∷ w.strikes) → made ≡ strikes_of answer n v.strikes
+  takes_made f x y i k l version n answer made same h some_word s next told makes =
+      let m = s.strikes in
+      let one : m.strike ≡ n = let q : some m.strike ≡ some n = sym m.is_next ∙ next in cc in
+      let word_of : ℕ → Type 0 = λ z. 0 < e.graph.notify_words z in
+      let known : 0 < e.graph.notify_words (e.plan.strike n).key.0 = let P : ℕ → Type 0 = λ j. 0 < e.graph.notify_words (e.plan.strike j).key.0 in subst P one (subst word_of (sym m.of_key) some_word) in
+      let there : strike_next f.graph f.plan w ≡ some n = ap (λ (g : Setting). strike_next g.graph g.plan w) same ∙ takes_strike x i n h next known in
+      makes n there ∙ ap (λ (ms : List ℕ). n ∷ ms) (takes_strikes x i h) ∙ sym (ap (λ (z : Blow). strikes_of z n v.strikes) told ∙ by (is_good version y))
+    where
+      by : (q : Bool) → strikes_of (cond q blow.Landed blow.Missed) n v.strikes ≡ n ∷ v.strikes
+      by true = refl
+      by false = refl
+
+-- what a whole strike leaves, from what its two steps do
+pub blow_leaves : (e f : Setting) (b k l version i n : ℕ) (v mid w : View) (x : BlockCells) (answer : Blow) → f ≡ e → i ≡ 0 → mid ≡ after e (event.take_turn b x) i v → length x.cells ≡ e.graph.cells b → (x.struck ≡ false → 0 < x.tag → x.cells ≡ e.graph.value (e.graph.writer b x.tag)) → answer ≡ blow_of version x → w ≡ after f (struck_home k l b answer x) n mid → BlowLeaves e b v w n k l version answer
+blow_leaves e f b k l version i n v mid w x answer same taken h cells value told view = leaves answer told begun
+  where
+    now : Setting → View → Type 0
+    now g u = w ≡ after g (struck_home k l b answer x) n u
+
+    first : mid ≡ after e (event.take_turn b x) 0 v
+    first = let P : ℕ → Type 0 = λ j. mid ≡ after e (event.take_turn b x) j v in subst P taken h
+
+    begun : w ≡ after e (struck_home k l b answer x) n (after e (event.take_turn b x) 0 v)
+    begun = subst (now e) first (subst (λ (g : Setting). now g mid) same view)
+
+    had : IsTaken e (after e (event.take_turn b x) 0 v) b x
+    had = record { hand = record { others = v.hands; hands_are = refl }; cells = cells; value = value }
+
+    landed : (q : Bool) → blow.Landed ≡ cond q blow.Landed blow.Missed → q ≡ true
+    landed true t = refl
+    landed false t = absurd cc
+
+    missed_it : (q : Bool) → blow.Missed ≡ cond q blow.Landed blow.Missed → q ≡ false
+    missed_it true t = absurd cc
+    missed_it false t = refl
+
+    never : (q : Bool) → blow.Busy ≡ cond q blow.Landed blow.Missed → IsBusy e b v w n
+    never true t = absurd cc
+    never false t = absurd cc
+
+    leaves : (z : Blow) → z ≡ cond (is_good version x) blow.Landed blow.Missed → w ≡ after e (struck_home k l b z x) n (after e (event.take_turn b x) 0 v) → BlowLeaves e b v w n k l version z
+    leaves blow.Landed t u = record { was = x; is_taken = had; is_told = landed (is_good version x) t; view_is = u }
+    leaves blow.Missed t u = record { was = x; is_taken = had; is_told = missed_it (is_good version x) t; view_is = u }
+    leaves blow.Busy t u = never (is_good version x) t

@@ -1,0 +1,3 @@
+mod Blows
+mod Flipping
+mod Turning

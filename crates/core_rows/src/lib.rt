@@ -1,0 +1,7 @@
+//! What the core answers on a graph of one task, worked out by hand. The crate has tests alone.
+#![tactic(auto)]
+
+#[cfg(test)]
+mod at_once;
+#[cfg(test)]
+mod one_task;
