@@ -19,12 +19,12 @@ use Rattle.graph_model.specs.declared.record.Cause.{Cause}
 use Rattle.graph_model.specs.declared.record.Record.TheVariants as record_of
 use Rattle.core_state.proofs.Cases.{two_here}
 use Rattle.core_state.proofs.Elects.{keeps_elect}
-use Rattle.core_state.proofs.Spots.{read_at}
 use Rattle.core_state.proofs.Stepping.{state_sums}
 use Rattle.core_state.proofs.Sums.{total_within}
 use Rattle.core_state.proofs.SuspectGone.{taken}
 use Rattle.core_steps.proofs.Bound.{greatest}
 use Rattle.core_steps.proofs.Changing.{elem_at}
+use Rattle.core_steps.proofs.Loading.{recovery_few}
 use Rattle.core_steps.proofs.Noting.{stores_with, many_with, listed_keeps, other_keeps}
 use Rattle.core_steps.proofs.Sounding.{any_step, listed_step, quiet_step, row_in, with_step}
 use Rattle.core_steps.specs.Table.{Plain, view_at, home_at, core_by, recorded, replaced_by, IsSound}
@@ -51,10 +51,7 @@ module _ (e : Setting) (p : Plain) (i : ℕ) (low : i < length p.views) (s : IsS
       let b = a.0 in let d = few in (omega (arith, b), omega (arith, d))
 
   pub elect_few : get_or p.words (place_of p.shape (recovery r)) 0 < 2 ^ 17
-  elect_few = let w : ℕ = (core_by p.shape p.words p.blocks p.views).word (recovery r) in
-      let at : w ≡ get_or p.words (place_of p.shape (recovery r)) 0 = read_at p.shape p.words (recovery r) (lt-ltb r p.shape.rows (row_in e p i low s r can.row.low)) in
-      let most = (s.holds.lives.each r k has).at_most in let a = greatest e s.setting (core_by p.shape p.words p.blocks p.views) (state_sums {S = BlockCells} p.shape (λ _. home_at p.blocks) (record { words = p.words; homes = []; views = p.views })) s.holds k in
-      let less : standing_life w < 65536 = omega (arith, most, a) in subst (λ n. n < 2 ^ 17) at (omega (arith, less))
+  elect_few = recovery_few e p i low s r k can.row
 
   -- the step keeps the invariant, whatever was found
   kept : let n : ℕ = get_or p.words (place_of p.shape (recovery r)) 0 in let u : View = after_elect k l c waits n (elected_of l n) (view_at p i) in

@@ -65,6 +65,17 @@ key_in-suc n k e = let same : n ≡ suc k = omega (arith, e) in ap key_in same
 other_word : (n k : ℕ) → 0 < n → n ≢ k + 1 → is_other k n ≡ true
 other_word n k full ne = ap (λ (b : Bool). cond b false (cond (eqb n (k + 1)) false true)) (ne_eqb n 0 (λ z. omega (arith, z, full))) ∙ ap (λ (b : Bool). cond b false true) (ne_eqb n (k + 1) ne)
 
+-- the rows before the one that is next are known to hold other keys
+pub passed_before : (v : View) (rows k d : ℕ) → d < rows → HasPassed (known_of v) k rows d → others_before rows k v.known d ≡ true
+passed_before v rows k zero l passed = refl
+passed_before v rows k (suc d) l passed = let o = passed.others d (omega arith) in let at = path_is k rows d (omega (arith, l)) in let n : ℕ = word_in ((k + d) % rows) v.known in
+    let one : n ≡ o.other + 1 = number_of n o.other (subst (λ y. known_of v y ≡ Some o.other) at o.is) in
+    ap (λ (b : Bool). b && is_other k n) (passed_before v rows k d (omega (arith, l)) (record { others = λ step m. passed.others step (omega (arith, m)) })) ∙ other_word n k (omega (arith, one)) (λ q. o.differs (omega (arith, one, q)))
+
+-- those before a row that lies on the path behind them too
+pub passed_upto : (v : View) (rows k d r : ℕ) → d < rows → r < rows → r ≡ path_row k rows d → HasPassed (known_of v) k rows d → others_before rows k v.known (distance rows k r) ≡ true
+passed_upto v rows k d r l low here passed = subst (λ x. others_before rows k v.known x ≡ true) (at_distance rows k r d low l (here ∙ path_is k rows d l)) (passed_before v rows k d l passed)
+
 module _ (e : Setting) (p : Plain) (i : ℕ) (low : i < length p.views) (s : IsSound e p) where
   pub key_known : (r k : ℕ) → known_of (view_at p i) r ≡ Some k → HasKey e (core_by p.shape p.words p.blocks p.views) r k
   key_known r k is = let n : ℕ = word_in r (view_at p i).known in let one : n ≡ k + 1 = number_of n k is in
@@ -104,15 +115,8 @@ module _ (e : Setting) (p : Plain) (i : ℕ) (low : i < length p.views) (s : IsS
       let b = read_at p.shape p.words (key r) (lt-ltb r p.shape.rows there) in let c = ap (λ y. (core_by p.shape p.words p.blocks p.views).word (key y)) here in omega (arith, a, b, c, empty))
       (λ m. let z : d ≡ next.step = omega (arith, l, m) in let w : t ≡ r = to ∙ ap (λ y. (k + y) % rows) z ∙ sym here in let c = ap (λ y. get_or p.words (place_of p.shape (key y)) 0) w in omega (arith, c, full, empty)))
 
-  -- the rows before the one that is next are known to hold other keys
-  passed_is : (k d : ℕ) → d < e.shape.rows → HasPassed (known_of (view_at p i)) k e.shape.rows d → others_before e.shape.rows k (view_at p i).known d ≡ true
-  passed_is k zero l passed = refl
-  passed_is k (suc d) l passed = let o = passed.others d (omega arith) in let at = path_is k e.shape.rows d (omega (arith, l)) in let n : ℕ = word_in ((k + d) % e.shape.rows) (view_at p i).known in
-      let one : n ≡ o.other + 1 = number_of n o.other (subst (λ y. known_of (view_at p i) y ≡ Some o.other) at o.is) in
-      ap (λ (b : Bool). b && is_other k n) (passed_is k d (omega (arith, l)) (record { others = λ step m. passed.others step (omega (arith, m)) })) ∙ other_word n k (omega (arith, one)) (λ q. o.differs (omega (arith, one, q)))
-
   pub can_of : (r k : ℕ) → r < e.shape.rows → Explores e (view_at p i) k → IsNext (known_of (view_at p i)) k e.shape.rows r → CanClaim e (view_at p i) r k
-  can_of r k l x next = let here : r ≡ (k + next.step) % e.shape.rows = sym next.at ∙ path_is k e.shape.rows next.step next.within in record {
+  can_of r k l x next = record {
     explorer = x.explorer;
     life = x.life;
     place = x.place;
@@ -120,7 +124,7 @@ module _ (e : Setting) (p : Plain) (i : ℕ) (low : i < length p.views) (s : IsS
     exploring = x.exploring;
     is_place = x.is_place;
     names = x.names;
-    path = subst (λ d. others_before e.shape.rows k (view_at p i).known d ≡ true) (at_distance e.shape.rows k r next.step l next.within here) (passed_is k next.step next.within next.passed);
+    path = passed_upto (view_at p i) e.shape.rows k next.step r next.within l (sym next.at) next.passed;
   }
 
 -- a test of items that no claim, no look and no settling changes the count of

@@ -5,6 +5,7 @@ mod blocks;
 mod closed;
 mod closes;
 mod electing;
+mod hints;
 mod kinds;
 mod loads;
 mod making;
@@ -18,6 +19,7 @@ mod trace;
 mod views;
 
 pub use closed::Closed;
+pub use hints::Hints;
 pub use plain::PlainTable;
 pub use seat::PlainSeat;
 pub use steps::Steps;

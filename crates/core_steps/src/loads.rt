@@ -5,7 +5,7 @@ use core_state::{Course, Descriptor, NotifyWord, Recovery};
 
 impl<C: Course> PlainTable<C> {
     ghost use Rattle.std.specs.Prelude.{◌≡◌, ◌<◌, length, slice_index};
-    ghost use Rattle.core_state.specs.Words.{place_of, descriptor, notify, recovery};
+    ghost use Rattle.core_state.specs.Words.{place_of, descriptor, notify, recovery, standing_life};
     ghost use Rattle.core_state.specs.Calls.{CanLoadNotify, KnowsRow};
     ghost use Rattle.core_state.specs.Packed.{descriptor_of, notify_of, recovery_of};
     ghost use Rattle.core_state.specs.Counts.{known_key};
@@ -39,6 +39,7 @@ impl<C: Course> PlainTable<C> {
         requires worker { worker < length self.old.views }
         requires can { KnowsRow C.setting (view_at self.old worker) row (known_key row (view_at self.old worker)) }
         ensures shows { result ≡ recovery_of (slice_index self.old.words (place_of self.old.shape (recovery row))) }
+        ensures life { result.life ≡ standing_life (slice_index self.old.words (place_of self.old.shape (recovery row))) }
         ensures table { let at = place_of self.old.shape (recovery row) in let n = slice_index self.old.words at in self.new ≡ stepped_by C.setting self.old worker (Kind.LoadRecovery row) at n n }
     {
         let at = self.recovery_at(row);

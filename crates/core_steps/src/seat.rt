@@ -328,6 +328,8 @@ impl<'a, C: Course> Steps for PlainSeat<'a, C> {
 
     ghost key_table = { λ s t row claimed did. record { same_setting = refl; same_lender = did.1; same_others = did.2 } };
 
+    ghost keys_are = { λ s. refl };
+
     ghost rows_are = { λ s. refl };
 
     ghost known_is = { λ s row. refl };

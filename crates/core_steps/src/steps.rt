@@ -10,7 +10,7 @@ use std::alloc::AllocError;
 pub trait Steps: KeyWords {
     ghost use Rattle.std.specs.Prelude.{◌≡◌, ◌≤◌, ◌+◌, ◌/◌, ◌==◌, ℕ, List, Option, IfSome, OnOk, length, ◌<◌, ◌^◌, false};
     ghost use Rattle.core_state.specs.Graph.{Setting};
-    ghost use Rattle.core_state.specs.Words.{descriptor, notify, recovery, pending, stop as stop_word, posted, turn};
+    ghost use Rattle.core_state.specs.Words.{descriptor, notify, recovery, pending, standing_life, stop as stop_word, posted, turn};
     ghost use Rattle.core_state.specs.Counts.{known_key};
     ghost use Rattle.core_state.specs.Kinds.{after, Event as event};
     ghost use Rattle.core_state.specs.Calls.{CanBuy, CanClose, CanCompute, CanDropCredit, CanElect, CanFinish, CanGiveStruck, CanGiveWritten, CanLoadNotify, CanPost, CanRegister, CanRenewDescriptor, CanRenewNotify, CanSpend, CanStrikeDescriptor, CanStrikeNotify, CanTakeTurn, InHand, KnowsRow};
@@ -74,6 +74,7 @@ pub trait Steps: KeyWords {
         requires can { KnowsRow (setting self.old) (view self.old) row (known_key row (view self.old)) }
         requires room { 1 ≤ Self.spare self.old }
         ensures shows { result ≡ recovery_of (shown self.new).1 }
+        ensures life { result.life ≡ standing_life (shown self.new).1 }
         ensures word { Shows (setting self.old) (recovery row) (shown self.new) }
         ensures view { view self.new ≡ after (setting self.old) (event.load_recovery row (known_key row (view self.old))) (shown self.new).1 (view self.old) }
         ensures made { Self.made self.new ≡ Self.made self.old + 1 }
@@ -331,7 +332,9 @@ pub trait Steps: KeyWords {
     // And it changes nothing of the table besides.
     ghost key_table: { (s t : Self) (row : ℕ) (claimed : Option ℕ) → Self.did s row claimed t → IsSameTable setting lender others s t };
 
-    // What the caller of the key words knows is what the view knows.
+    // The key words are those of the table, and what their caller knows is what the view knows.
+    ghost keys_are: { (s : Self) → Self.keys s ≡ (setting s).keys };
+
     ghost rows_are: { (s : Self) → Self.row_count s ≡ (setting s).shape.rows };
 
     ghost known_is: { (s : Self) (row : ℕ) → Self.known s row ≡ known_of (view s) row };

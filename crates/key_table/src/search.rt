@@ -14,7 +14,7 @@ pub enum Sought {
 /// A walk along a key's path. All turns of a search are made by the same caller, and none follows
 /// At or Absent. Clauses see the key, the number of rows, how many of them it has passed, and
 /// whether it makes the row.
-#[derive(Debug, Drop)]
+#[derive(Clone, Copy, Debug)]
 pub struct Search {
     key: Key,
     rows: u32,
@@ -33,6 +33,12 @@ impl Model for Search {
     ghost view = { λ s. record { key = s.key.0; rows = s.rows; passed = s.passed; makes = s.makes } };
 
     ghost invariant = { λ s. (s.passed < s.rows) × (s.row ≡ path_row s.key.0 s.rows s.passed) };
+
+    ghost inverse = { λ s. record { key = record { 0 = s.key }; rows = s.rows; passed = s.passed; row = path_row s.key s.rows s.passed; makes = s.makes } };
+
+    ghost use Rattle.std.proofs.Common.{ap, sym};
+
+    ghost inverse_ok = { λ a h. ap (λ r. record a { row = r }) (sym h.1) };
 }
 
 impl Search {
