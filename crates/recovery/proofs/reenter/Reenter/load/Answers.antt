@@ -1,0 +1,18 @@
+use Rattle.recovery.proofs.Knowing.{row_here}
+use Rattle.recovery.proofs.Entering.{goes_marked, goes_spent, goes_unspent}
+use Rattle.recovery.proofs.reenter.Reenter.load.Goals as goal
+
+pub load_descriptor-word-requires-clause-can : goal.load_descriptor-word-requires-clause-can
+load_descriptor-word-requires-clause-can g c = row_here _ _ c.args.at c.args.successor.0 c.requires.at
+
+pub returns-then-word-clause-goes : goal.returns-then-word-clause-goes
+returns-then-word-clause-goes g c = λ p port. let load = c.load_descriptor-word in
+    goes_marked _ _ _ (g.T.Steps.shown load.new.self).1 p c.args.place c.args.at c.args.successor c.args.self.now port c.requires.at load.result load.ensures.shows load.ensures.view c.leave.new.self c.leave.ensures c.if-word.true
+
+pub returns-then-has-clause-goes : goal.returns-then-has-clause-goes
+returns-then-has-clause-goes g c = λ p port. let load = c.load_descriptor-word in
+    goes_spent _ _ _ (g.T.Steps.shown load.new.self).1 p c.args.place c.args.at c.args.successor c.args.self.now port c.requires.at load.result load.ensures.shows load.ensures.view c.leave-then-has.new.self c.has.result c.leave-then-has.ensures c.if-word.false c.requires.place c.has.ensures c.if-has.true
+
+pub returns-else-has-clause-goes : goal.returns-else-has-clause-goes
+returns-else-has-clause-goes g c = λ p port. let load = c.load_descriptor-word in
+    goes_unspent _ _ _ (g.T.Steps.shown load.new.self).1 p c.args.place c.args.at c.args.successor c.args.self.now port c.requires.at load.result load.ensures.shows load.ensures.view c.has.result c.if-word.false c.requires.place c.has.ensures c.if-has.false

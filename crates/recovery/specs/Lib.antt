@@ -1,0 +1,5 @@
+pub mod Memory
+pub mod Owing
+pub mod Recovering
+pub mod Reentering
+pub mod Serving
