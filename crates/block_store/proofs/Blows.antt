@@ -1,12 +1,12 @@
 -- What the turn of a block leaves of a strike that the view makes next.
-use Rattle.std.proofs.Common.{◌≡◌, ◌∙◌, ℕ, ◌<◌, ⊎_elim, Bool, true, false, cond, eqb, eq-eqb, nat_lt, nat_eq, ◌&&◌, List, [], ◌∷◌, length, ap, sym, subst, refl, arith}
-use mathlib.Core.Option.{Option, some, none, some-ne-none}
+use Rattle.std.proofs.Common.{◌≡◌, ◌∙◌, ℕ, ◌<◌, ⊎_elim, Bool, true, false, cond, eqb, nat_lt, nat_eq, List, [], ◌∷◌, length, ap, sym, subst, refl, arith}
+use mathlib.Core.Option.{some, none, some-ne-none}
 use Rattle.std.proofs.lemmas.Bool.{eqb-true, lt-ltb}
 use Rattle.core_state.proofs.Cases.{two_tells}
 use Rattle.core_state.proofs.PassingPoints.{left_none}
 use Rattle.core_state.proofs.Striking.{next_strike_is}
 use Rattle.core_state.specs.Counts.{carries, job_of}
-use Rattle.core_state.specs.Events.{is_good, missed, missed_by}
+use Rattle.core_state.specs.Events.{is_good}
 use Rattle.core_state.specs.Graph.{Graph, Plan, Setting}
 use Rattle.core_state.specs.Kinds.{after, Event as event}
 use Rattle.core_state.specs.Views.{is_finished, none_left, on_top, passing, settle, strike_at, strike_next, strike_of, top_items, unfinished}
@@ -18,29 +18,9 @@ use Rattle.core_state.specs.declared.views.Item.TheVariants as item
 use Rattle.core_state.specs.declared.views.Stack.{Stack}
 use Rattle.core_state.specs.declared.views.View.{View}
 use Rattle.graph_model.specs.declared.plan.Point.TheVariants as point
-use Rattle.graph_model.specs.declared.plan.Strike.{Strike}
-use Rattle.graph_model.specs.declared.plan.Target.{Target}
-use Rattle.graph_model.specs.declared.plan.Target.TheVariants as target
 use Rattle.block_store.specs.Turned.{BlowLeaves, IsBusy, IsTaken, StrikesNext, blow_of, strikes_of, struck_home}
 use Rattle.block_store.specs.declared.answers.Blow.{Blow}
 use Rattle.block_store.specs.declared.answers.Blow.TheVariants as blow
-
--- the strike on a block that doesn't hold the version unstruck is one that misses
-misses_here : (g : Graph) (b version : ℕ) (x : BlockCells) (s : Strike) → s.target ≡ target.Block → b ≡ g.block s.key.0 → version ≡ g.version s.key.0 → is_good version x ≡ false → missed g b x s ≡ true
-misses_here g b version x s on here of bad =
-    let by_target : Target → Bool = λ t. missed g b x (record s { target = t }) in
-    let other : is_good (g.version s.key.0) x ≡ false = ap (λ (v : ℕ). is_good v x) (sym of) ∙ bad in
-    ap by_target on ∙ ap (λ (q : Bool). q && cond (is_good (g.version s.key.0) x) false true) (eq-eqb b (g.block s.key.0) here) ∙ ap (λ (q : Bool). cond q false true) other
-
--- so it is made
-pub misses : (e : Setting) (v : View) (b k l version n : ℕ) (x : BlockCells) → StrikesNext e v b k l version → is_good version x ≡ false → strike_next e.graph e.plan v ≡ some n → missed_by e.graph e.plan b x (strike_next e.graph e.plan v) v.strikes ≡ n ∷ v.strikes
-misses e v b k l version n x h bad next =
-    let m = h.strikes in
-    let same : n ≡ m.strike = let f : some n ≡ some m.strike = sym next ∙ m.is_next in cc in
-    let here : b ≡ e.graph.block (e.plan.strike m.strike).key.0 = h.block_is ∙ ap e.graph.block (sym m.of_key) in
-    let of : version ≡ e.graph.version (e.plan.strike m.strike).key.0 = h.version_is ∙ ap e.graph.version (sym m.of_key) in
-    let by : missed_by e.graph e.plan b x (some m.strike) v.strikes ≡ m.strike ∷ v.strikes = ap (λ (q : Bool). cond q (m.strike ∷ v.strikes) v.strikes) (misses_here e.graph b version x (e.plan.strike m.strike) m.on_target here of bad) in
-    ap (λ (o : Option ℕ). missed_by e.graph e.plan b x o v.strikes) m.is_next ∙ by ∙ ap (λ (i : ℕ). i ∷ v.strikes) (sym same)
 
 -- a closing that carries a job is of the job's task
 carried_key : (j : Job) (m d k l w : ℕ) → carries j m d (item.Close k l w) ≡ true → m ≡ k
