@@ -15,6 +15,8 @@ pub record IsGraphOf (g : TaskGraph) (outcome : Outcome) (r : Graph) : Type 0 wh
   pub sink : r.sink ≡ g.sink
   pub at_task : (k : ℕ) → IsTask g k → IsTaskIn g outcome r k
   pub at_root : IsRootIn g outcome r
+  -- the writer of a version of a task's block
+  pub writer : (b v : ℕ) → b < g.block_count → r.writer b v ≡ g.writer b v
   pub cells : (b : ℕ) → b < g.block_count → r.cells b ≡ g.cells b
   pub root_cells : r.cells g.block_count ≡ g.cells (g.block g.sink)
 

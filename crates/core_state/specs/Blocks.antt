@@ -2,7 +2,8 @@
 use Rattle.std.specs.Prelude.{◌≡◌, ℕ, ◌<◌, ◌≤◌, true, false}
 use Rattle.core_state.specs.Graph.{Setting}
 use Rattle.core_state.specs.Words.{turn}
-use Rattle.core_state.specs.Counts.{in_hand, is_version, is_struck_version}
+use Rattle.core_state.specs.Counts.{in_hand}
+use Rattle.core_state.specs.Tests.{is_version, is_struck_version}
 use Rattle.core_state.specs.Change.{Core, many}
 use Rattle.core_state.specs.declared.block.BlockCells.{BlockCells}
 

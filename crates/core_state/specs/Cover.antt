@@ -3,7 +3,8 @@ use Rattle.std.specs.Prelude.{◌≡◌, ◌≢◌, ◌⊎◌, ℕ, ◌+◌, ◌
 use Rattle.core_state.specs.Graph.{Setting, Reads}
 use Rattle.graph_model.specs.declared.plan.Strike.{Strike}
 use Rattle.core_state.specs.Words.{descriptor, notify, recovery, posted, life_of, replacing, standing_life}
-use Rattle.core_state.specs.Counts.{hit, items, explores, is_owed, notifies, reenters, is_renew, is_renew_of, is_suspect, is_any_suspect, is_close, is_loaded, owed, held, waits, struck_by, is_spent, is_computed, is_closed, is_version, is_writing, is_any_struck}
+use Rattle.core_state.specs.Counts.{hit, items, owed, held, waits, struck_by}
+use Rattle.core_state.specs.Tests.{explores, is_owed, notifies, reenters, is_renew, is_renew_of, is_suspect, is_any_suspect, is_close, is_loaded, is_spent, is_computed, is_closed, is_version, is_writing, is_any_struck}
 use Rattle.core_state.specs.Change.{Core, many}
 use Rattle.core_state.specs.Laws.{IsPlace, AllClosed}
 use Rattle.core_state.specs.Rows.{HasKey}
@@ -62,12 +63,12 @@ module _ (e : Setting) (s : Core) where
     pub each : (r k : ℕ) → HasKey e s r k → ((j : ℕ) → IsPlace e.graph k j → 0 < many s (is_spent k (life_of (s.word (descriptor r))) j))
         → (0 < s.total (works k (life_of (s.word (descriptor r)))) + hit (eqb (life_of (s.word (descriptor r))) (s.word (posted Compute r)))) ⊎ AllClosed e.graph e.plan (many s) k (life_of (s.word (descriptor r)))
 
-  -- what follows from parts 2, 7 and 8: a key has work left, or waits for a place, or has closed all its words
+  -- a key is active where it has work left or waits for a place
   pub data Active (r k l : ℕ) : Type 0 where
     at_work : 0 < s.total (works_at_all k l) + hit (eqb l (s.word (posted Explore r))) + hit (eqb l (s.word (posted Compute r))) → Active r k l
     needs_place : (j : ℕ) → IsPlace e.graph k j → Needs r k l j → Active r k l
 
-  -- what follows of each key in this form: it is active, or the life that stands has closed all its words
+  -- it is active, or the life that stands has closed all its words: so it is for each key, by the parts on lives, cover and activity
   abbrev pub ActiveOrClosed : ℕ → ℕ → Type 0
   ActiveOrClosed r k = Active r k (standing_life (s.word (recovery r))) ⊎ AllClosed e.graph e.plan (many s) k (standing_life (s.word (recovery r)))
 

@@ -2,7 +2,8 @@
 use Rattle.std.specs.Prelude.{◌≡◌, ◌≢◌, ◌⊎◌, ℕ, zero, suc, ◌+◌, ◌-◌, ◌/◌, ◌<◌, ◌≤◌, Bool, true, false, cond, ◌&&◌, nat_lt, eqb, List, length}
 use Rattle.core_state.specs.Graph.{Graph, Plan, Reached, Reads}
 use Rattle.graph_model.specs.declared.plan.Strike.{Strike}
-use Rattle.core_state.specs.Counts.{count, two, same_cause, is_created, is_spent, is_computed, is_written, is_version, is_later_version, is_miswritten, is_closed, is_closing, is_any_struck, is_struck, is_struck_from, is_struck_upto, is_struck_version, is_misstruck, is_replaced, is_replaced_for, is_replaced_below, is_any_replaced, is_of, strikes_upto}
+use Rattle.core_state.specs.Counts.{count}
+use Rattle.core_state.specs.Tests.{two, is_created, is_spent, is_computed, is_written, is_version, is_later_version, is_miswritten, is_closed, is_closing, is_any_struck, is_struck, is_struck_from, is_struck_upto, is_struck_version, is_misstruck, is_replaced, is_replaced_for, is_replaced_below, is_any_replaced, is_of, strikes_upto}
 use Rattle.graph_model.specs.declared.record.Hit.{Hit}
 use Rattle.graph_model.specs.declared.record.Hit.TheVariants as hit_of
 use Rattle.graph_model.specs.declared.record.Found.TheVariants as found

@@ -2,11 +2,12 @@ pub mod Words
 pub mod Packed
 pub mod Shapes
 pub mod Graph
+pub mod Tests
 pub mod Counts
 pub mod Change
 pub mod Views
-pub mod Events
-pub mod Calls
+pub mod Effects
+pub mod Guards
 pub mod Laws
 pub mod Rows
 pub mod Work
@@ -15,8 +16,10 @@ pub mod Records
 pub mod Cover
 pub mod Prevented
 pub mod Invariant
-pub mod Kinds
+pub mod Events
 pub mod Lines
 pub mod Outcome
 pub mod Rooted
 pub mod Asked
+pub mod RowWords
+pub mod Sure

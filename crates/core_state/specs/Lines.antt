@@ -2,14 +2,15 @@
 use Rattle.std.specs.Prelude.{◌≡◌, ℕ, zero, suc, ◌+◌, Bool, true, false, cond, eqb, List, [], ◌∷◌}
 use Rattle.core_state.specs.Graph.{Graph, Plan, Setting}
 use Rattle.core_state.specs.Counts.{bump}
-use Rattle.core_state.specs.Views.{is_finished, without_first}
-use Rattle.core_state.specs.Events.{skipped_items, ports_from}
+use Rattle.core_state.specs.Views.{is_finished, without_first, ends_with}
+use Rattle.core_state.specs.Effects.{skipped_items, ports_from}
 use Rattle.graph_model.specs.declared.record.Cause.{Cause}
 use Rattle.graph_model.specs.declared.record.Cause.TheVariants as cause
 use Rattle.core_state.specs.declared.job.Job.{Job}
 use Rattle.core_state.specs.declared.job.Job.TheVariants as job
 use Rattle.core_state.specs.declared.views.Item.{Item}
 use Rattle.core_state.specs.declared.views.Item.TheVariants as item
+use Rattle.core_state.specs.declared.views.Ended.{Ended}
 use Rattle.core_state.specs.declared.views.Known.{Known}
 use Rattle.core_state.specs.declared.views.Stack.{Stack}
 use Rattle.core_state.specs.declared.views.View.{View}
@@ -56,6 +57,18 @@ abbrev pub stands : Graph → Plan → List ℕ → List Line → Bool
 stands g p made [] = true
 stands g p made (credit ∷ b) = true
 stands g p made (of x ∷ b) = cond (is_finished g p made x) false true
+
+-- the jobs that have ended, once the finished items on top have gone
+abbrev pub settled_ended : Graph → Plan → List ℕ → List Line → List Ended → List Ended
+settled_ended g p made [] es = es
+settled_ended g p made (credit ∷ b) es = es
+settled_ended g p made (of x ∷ b) es = cond (is_finished g p made x) (settled_ended g p made b (ends_with x es)) es
+
+-- the jobs that have ended, with the one that ends by what becomes of the first item
+abbrev pub first_ended : (List Item → List Ended → List Ended) → List Line → List Ended → List Ended
+first_ended f [] es = f [] es
+first_ended f (credit ∷ b) es = f [] es
+first_ended f (of x ∷ b) es = f (x ∷ []) es
 
 -- other items stand in the place of the first one
 abbrev pub change_first : (List Item → List Item) → List Line → List Line

@@ -1,14 +1,20 @@
--- What each event leaves of a view's lines, strikes, spare credits and hands, and what the view learns.
-use Rattle.std.specs.Prelude.{ℕ, ◌+◌, ◌-◌, ◌/◌, true, cond, eqb, List, [], ◌∷◌}
+-- What each event leaves of a view's lines, strikes, spare credits and hands, what it records and which jobs it ends, and what the view learns.
+use Rattle.std.specs.Prelude.{ℕ, ◌+◌, ◌-◌, ◌/◌, Bool, true, false, cond, nat_lt, eqb, List, [], ◌∷◌}
 use mathlib.Core.Option.{Option, some, none}
 use Rattle.core_state.specs.Graph.{Setting}
-use Rattle.core_state.specs.Views.{strike_next, without_first}
-use Rattle.core_state.specs.Events.{claim_of, loaded_items, blamed_items, cleared_items, registered_of, told_of, closing_of, elected_of, seen, seen_notify, all_ports, read_items, missed_by, has_idle}
-use Rattle.core_state.specs.Kinds.{Event}
-use Rattle.core_state.specs.Kinds.Event.{claim, look, load_descriptor, load_notify, load_recovery, load_pending, load_stop, register, spend, close, elect, renew_notify, renew_descriptor, finish, strike_descriptor, strike_notify, post, take, buy, drop_credit, take_turn, give_read, give_written, give_struck, halt}
-use Rattle.core_state.specs.Lines.{Line, change_first, swap_first, drop_first, dropped, came_lines, claimed_lines, looked_lines, registered_lines, told_lines, closed_lines, elected_lines}
-use Rattle.core_state.specs.Events.{moved_items}
+use Rattle.core_state.specs.Views.{key_of, strike_next, without_first}
+use Rattle.core_state.specs.Effects.{claim_of, loaded_items, loaded_ended, blamed_items, cleared_items, registered_of, told_of, closing_of, elected_of, hitting_of, seen, seen_notify, all_ports, read_items, read_ended, missed_by, has_idle}
+use Rattle.core_state.specs.Events.{Event}
+use Rattle.core_state.specs.Events.Event.{claim, look, load_descriptor, load_notify, load_recovery, load_pending, load_stop, register, spend, close, elect, renew_notify, renew_descriptor, finish, strike_descriptor, strike_notify, post, take, buy, drop_credit, take_turn, give_read, give_written, give_struck, halt}
+use Rattle.core_state.specs.Lines.{Line, flat, first_ended, change_first, swap_first, drop_first, dropped, came_lines, claimed_lines, looked_lines, registered_lines, told_lines, closed_lines, elected_lines}
+use Rattle.core_state.specs.Effects.{moved_items, moved_ended, ends_top}
+use Rattle.graph_model.specs.declared.record.Cause.{Cause}
+use Rattle.graph_model.specs.declared.record.Hit.{Hit}
+use Rattle.graph_model.specs.declared.record.Hit.TheVariants as hit_of
+use Rattle.graph_model.specs.declared.record.Record.{Record}
+use Rattle.graph_model.specs.declared.record.Record.TheVariants as record_of
 use Rattle.core_state.specs.declared.job.Job.TheVariants as job
+use Rattle.core_state.specs.declared.views.Ended.{Ended}
 use Rattle.core_state.specs.declared.views.Hand.{Hand}
 use Rattle.core_state.specs.declared.views.Item.TheVariants as item
 use Rattle.core_state.specs.declared.views.Known.{Known}
@@ -20,6 +26,12 @@ use Rattle.core_state.specs.declared.answers.Registered.{Registered}
 use Rattle.core_state.specs.declared.answers.Registered.TheVariants as registered
 use Rattle.core_state.specs.declared.answers.Closing.{Closing}
 use Rattle.core_state.specs.declared.answers.Closing.TheVariants as closing
+use Rattle.core_state.specs.declared.answers.Told.{Told}
+use Rattle.core_state.specs.declared.answers.Told.TheVariants as told
+use Rattle.core_state.specs.declared.answers.Elected.{Elected}
+use Rattle.core_state.specs.declared.answers.Elected.TheVariants as elected
+use Rattle.core_state.specs.declared.answers.Hitting.{Hitting}
+use Rattle.core_state.specs.declared.answers.Hitting.TheVariants as hitting
 use Rattle.core_state.specs.declared.views.View.{View}
 
 -- the key that a claim tells of its row
@@ -46,7 +58,83 @@ abbrev pub made_next : Option ℕ → List ℕ → List ℕ
 made_next none xs = xs
 made_next (some n) xs = n ∷ xs
 
+-- the record of who made a row
+abbrev pub claimed_entries : ℕ → Claim → List Record
+claimed_entries k claimed.Made = record_of.Created (key_of k) ∷ []
+claimed_entries k claimed.Found = []
+claimed_entries k (claimed.Other key) = []
+
+-- the record of a place that is spent now
+abbrev pub told_entries : ℕ → ℕ → Told → List Record
+told_entries k j (told.Spent l) = record_of.Spent (key_of k) l j ∷ []
+told_entries k j (told.Last l) = record_of.Spent (key_of k) l j ∷ []
+told_entries k j (told.Already l) = []
+told_entries k j (told.Struck l) = []
+
+-- the record of a word that is closed now
+abbrev pub closed_entries : ℕ → ℕ → ℕ → Closing → List Record
+closed_entries k l w (closing.Edges ports) = record_of.Closed (key_of k) l w ∷ []
+closed_entries k l w (closing.Stale m) = []
+closed_entries k l w (closing.Struck m) = []
+closed_entries k l w (closing.Moved x) = []
+
+-- the record of a life that is replaced by who was elected
+abbrev pub elected_entries : ℕ → ℕ → Cause → Elected → List Record
+elected_entries k l c elected.Yes = record_of.Replaced (key_of k) l c ∷ []
+elected_entries k l c (elected.Replaced m) = []
+elected_entries k l c (elected.Renewing m) = []
+
+-- the record of a strike that landed on a word
+abbrev pub hitting_entries : ℕ → Hit → Hitting → List Record
+hitting_entries k hit (hitting.Landed l) = record_of.Struck (key_of k) l hit ∷ []
+hitting_entries k hit (hitting.Missed l) = []
+
+-- the jobs that have ended where the item goes on, for a port that waits, and else those that had
+abbrev pub registered_ended : Registered → List Ended → List Ended → List Ended
+registered_ended (registered.Waiting m) on es = on
+registered_ended (registered.Closed m) on es = es
+registered_ended (registered.Struck m) on es = es
+
+-- the jobs that have ended where a closing is given up, for a later life and for a mark, and else those that had
+abbrev pub closed_ended : Closing → List Ended → List Ended → List Ended
+closed_ended (closing.Edges ports) gone es = es
+closed_ended (closing.Stale m) gone es = gone
+closed_ended (closing.Struck m) gone es = gone
+closed_ended (closing.Moved x) gone es = es
+
+-- events that may record something else than a replacement or the place of a predecessor
+abbrev pub records_more : Event → Bool
+records_more (claim r k) = true
+records_more (spend r k j) = cond (nat_lt j 40) false true
+records_more (close r k l w m) = true
+records_more (strike_descriptor r k l) = true
+records_more (strike_notify r k l w) = true
+records_more (give_written k l b was now) = true
+records_more (give_struck k l b was now) = true
+records_more _ = false
+
 module _ (e : Setting) where
+  -- the records that the event adds, by the number that it found: at most one
+  abbrev pub entries : Event → ℕ → List Record
+  entries (claim r k) n = claimed_entries k (claim_of k n)
+  entries (spend r k j) n = told_entries k j (told_of (e.graph.places k) j n)
+  entries (close r k l w m) n = closed_entries k l w (closing_of l m n)
+  entries (elect r k l c waits) n = elected_entries k l c (elected_of l n)
+  entries (strike_descriptor r k l) n = hitting_entries k hit_of.Descriptor (hitting_of n)
+  entries (strike_notify r k l w) n = hitting_entries k (hit_of.Notify w) (hitting_of n)
+  entries (give_written k l b was now) n = record_of.Written (key_of k) l b now.tag ∷ []
+  entries (give_struck k l b was now) n = record_of.Struck (key_of k) l (hit_of.Block b now.tag) ∷ []
+  entries _ n = []
+
+  -- the jobs that have ended, before what is finished goes
+  abbrev pub ended_left : Event → ℕ → View → List Ended
+  ended_left (load_descriptor r k) n v = first_ended (loaded_ended e.graph e.plan v.strikes k n) (flat v.stacks) v.ended
+  ended_left (register r p q) n v = registered_ended (registered_of n) (first_ended (moved_ended e.graph) (flat v.stacks) v.ended) v.ended
+  ended_left (spend r k j) n v = first_ended (moved_ended e.graph) (flat v.stacks) v.ended
+  ended_left (close r k l w m) n v = closed_ended (closing_of l m n) (first_ended ends_top (flat v.stacks) v.ended) v.ended
+  ended_left (give_read b was) n v = first_ended (read_ended e.graph b was) (flat v.stacks) v.ended
+  ended_left _ n v = v.ended
+
   -- the facts that the event adds, the newest first, by the number that it found
   abbrev pub learned : Event → ℕ → List Known
   learned (claim r k) n = known.Row r (key_told k (claim_of k n)) ∷ []

@@ -1,7 +1,8 @@
 -- What strikes of the plan prevent: who passes a point has made its strikes before, and a struck word of a life is neither spent at nor closed in this life.
 use Rattle.std.specs.Prelude.{◌≡◌, ℕ, ◌+◌, ◌<◌}
 use Rattle.core_state.specs.Graph.{Setting}
-use Rattle.core_state.specs.Counts.{items, is_spent, is_computed, is_closed, is_loaded}
+use Rattle.core_state.specs.Counts.{items}
+use Rattle.core_state.specs.Tests.{is_spent, is_computed, is_closed, is_loaded}
 use Rattle.core_state.specs.Change.{Core, many}
 use Rattle.graph_model.specs.declared.plan.Strike.{Strike}
 use Rattle.graph_model.specs.declared.plan.Point.TheVariants as point

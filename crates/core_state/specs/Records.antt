@@ -3,7 +3,8 @@ use Rattle.std.specs.Prelude.{◌≡◌, ◌≢◌, ◌⊎◌, ℕ, ◌+◌, ◌
 use Rattle.core_state.specs.Graph.{Setting}
 use Rattle.graph_model.specs.declared.plan.Strike.{Strike}
 use Rattle.core_state.specs.Words.{descriptor, notify, recovery, life_of, mark_of, standing_life, replacing}
-use Rattle.core_state.specs.Counts.{hit, items, is_suspect_for, is_replaced, is_of, is_struck_from, is_struck_upto, is_misstruck, struck_by, struck_idly, struck_upto}
+use Rattle.core_state.specs.Counts.{hit, items, struck_by, struck_idly, struck_upto}
+use Rattle.core_state.specs.Tests.{is_suspect_for, is_replaced, is_of, is_struck_from, is_struck_upto, is_misstruck}
 use Rattle.core_state.specs.Change.{Core, many}
 use Rattle.core_state.specs.Laws.{SpentOnce, ComputedOnce, LivesNamed, SpentByEdge, CausesShown, Shown, Grounded, BlockStruck}
 use Rattle.core_state.specs.Rows.{HasKey}

@@ -97,4 +97,5 @@ pub record IsRootIn (g : TaskGraph) (outcome : Outcome) (r : Graph) : Type 0 whe
   pub notify_words : r.notify_words r.root ≡ 1
   pub block : r.block r.root ≡ g.block_count
   pub version : r.version r.root ≡ 1
+  pub writer : (v : ℕ) → r.writer g.block_count v ≡ r.root
   pub value : r.value r.root ≡ serial g outcome g.sink

@@ -1,9 +1,10 @@
 -- The parts of the invariant that speak of one row: keys, lives, and what its words show.
-use Rattle.std.specs.Prelude.{◌≡◌, ◌⊎◌, ℕ, ◌+◌, ◌*◌, ◌%◌, ◌<◌, ◌≤◌, suc, min}
+use Rattle.std.specs.Prelude.{◌≡◌, ◌⊎◌, ℕ, ◌+◌, ◌*◌, ◌%◌, ◌^◌, ◌<◌, ◌≤◌, suc, min}
 use Rattle.std.specs.Int.{bit_at}
 use Rattle.core_state.specs.Graph.{Setting, Reached, greatest_life}
 use Rattle.core_state.specs.Words.{Shape, Spot, key, descriptor, notify, recovery, posted, spot_of, life_of, mark_of, closed_bit, life_shown, mark_shown, standing_life, replacing}
-use Rattle.core_state.specs.Counts.{items, is_at, notifies, suspects_block, is_suspect, is_renew, is_renew_at, ended, is_created, is_spent, is_closed, is_struck, facts, is_idle, is_stopped, is_stops, is_seen_life, is_seen_mark, is_seen_closed, knows_row, waits}
+use Rattle.core_state.specs.Counts.{items, ended, facts, knows_row, waits}
+use Rattle.core_state.specs.Tests.{is_at, notifies, suspects_block, is_suspect, is_renew, is_renew_at, is_created, is_spent, is_closed, is_struck, is_idle, is_stopped, is_stops, is_seen_life, is_seen_mark, is_seen_closed}
 use Rattle.core_state.specs.Change.{Core, many}
 use Rattle.graph_model.specs.declared.record.Hit.TheVariants as hit_of
 use Rattle.core_state.specs.declared.job.Job.{Job}
@@ -26,8 +27,9 @@ module _ (e : Setting) (s : Core) where
     pub path : (r k d i : ℕ) → HasKey r k → d < e.shape.rows → r ≡ (k + d) % e.shape.rows → i < d → 0 < s.word (key ((k + i) % e.shape.rows))
     pub of_item : (k : ℕ) → 0 < s.total (items (is_at k)) → HasRow k
     pub of_ended : (i : Job) (k l : ℕ) → 0 < s.total (ended i k l) → HasRow k
-    pub of_waiting : (p l q : ℕ) → 0 < s.total (waits p l q) → HasRow p × HasRow (e.graph.succ p q).task
-    pub of_notify : (p q : ℕ) → 0 < s.total (items (notifies p q)) → HasRow (e.graph.succ p q).task
+    -- a port that is registered or to be told is one of its task
+    pub of_waiting : (p l q : ℕ) → 0 < s.total (waits p l q) → (q < e.graph.ports p) × HasRow p × HasRow (e.graph.succ p q).task
+    pub of_notify : (p q : ℕ) → 0 < s.total (items (notifies p q)) → (q < e.graph.ports p) × HasRow (e.graph.succ p q).task
     pub of_cause : (b v : ℕ) → 0 < s.total (items (suspects_block b v)) → HasRow (e.graph.writer b v)
     pub of_root : HasRow e.graph.root
     -- each row was made once, for a key on which the root depends
@@ -74,6 +76,8 @@ module _ (e : Setting) (s : Core) where
 
   -- what the descriptor's number n says of the key k
   pub record Shows (k n : ℕ) : Type 0 where
+    -- the bits between the mark and the life are 0
+    pub other_bits : n % 2 ^ 48 < 2 ^ 42
     -- unstruck, it shows exactly the spent places of its life
     pub spent : mark_of n ≡ 0 → (j : ℕ) → j ≤ 40 → bit_at n j ≡ many s (is_spent k (life_of n) j)
     -- a struck word has its record; no word of the root is struck
@@ -85,9 +89,13 @@ module _ (e : Setting) (s : Core) where
 
   -- what the number n of notify word w says of the key p
   pub record Lists (p w n : ℕ) : Type 0 where
+    -- the bits between the mark and the life are 0
+    pub other_bits : n % 2 ^ 48 < 2 ^ 42
     -- unstruck, it shows its closing and, while it is open, exactly the ports that wait
     pub closing : mark_of n ≡ 0 → closed_bit n ≡ many s (is_closed p (life_of n) w)
     pub waiting : mark_of n ≡ 0 → closed_bit n ≡ 0 → (b : ℕ) → b < 40 → bit_at n b ≡ min 1 (s.total (waits p (life_of n) (40 * w + b)))
+    -- a port that was registered in the life stays, also where the word is closed
+    pub registered : mark_of n ≡ 0 → (b : ℕ) → b < 40 → 0 < s.total (waits p (life_of n) (40 * w + b)) → bit_at n b ≡ 1
     pub struck : mark_of n ≡ 1 → 0 < many s (is_struck p (life_of n) (hit_of.Notify w))
     pub root : p ≡ e.graph.root → mark_of n ≡ 0
     -- no record and no registered port is of a later life than the word

@@ -3,7 +3,7 @@ use Rattle.std.specs.Prelude.{ℕ, zero, suc, ◌+◌, ◌-◌, Bool, true, fals
 use mathlib.Core.Option.{Option, some, none}
 use Rattle.core_state.specs.Graph.{Graph, Plan}
 use Rattle.graph_model.specs.declared.plan.Strike.{Strike}
-use Rattle.core_state.specs.Counts.{is_in, same_point, two}
+use Rattle.core_state.specs.Tests.{is_in, same_point, two}
 use Rattle.graph_model.specs.declared.key.Key.{Key}
 use Rattle.core_state.specs.declared.job.Job.{Job}
 use Rattle.core_state.specs.declared.job.Job.TheVariants as job
@@ -36,10 +36,6 @@ learn x v = record v { known = x ∷ v.known }
 -- the view has made the strike
 abbrev pub strike_made : ℕ → View → View
 strike_made n v = record v { strikes = n ∷ v.strikes }
-
--- a job of the view has ended
-abbrev pub end_job : Job → ℕ → ℕ → View → View
-end_job j k l v = record v { ended = record { job = j; key = k; life = l } ∷ v.ended }
 
 -- The stack that came last, and its items.
 abbrev pub on_top : (List Item → List Item) → List Stack → List Stack

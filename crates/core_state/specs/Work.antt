@@ -2,7 +2,8 @@
 use Rattle.std.specs.Prelude.{◌≡◌, ℕ, ◌+◌, ◌<◌, ◌≤◌, suc, zero, min, eqb, nat_lt, cond, Bool, true, false, ◌&&◌}
 use Rattle.core_state.specs.Graph.{Graph, Setting}
 use Rattle.core_state.specs.Words.{Spot, pending, descriptor, recovery, posted, life_of, standing_life}
-use Rattle.core_state.specs.Counts.{hit, items, is_compute, is_made, is_unmade, is_close, is_close_from, is_notify, is_suspect, owed, held, ended, begun, came, stack_count, spare, too_many, in_hand, in_wrong_hand, is_spent, is_computed, is_written, is_closed, is_replaced}
+use Rattle.core_state.specs.Counts.{hit, items, owed, held, ended, begun, came, stack_count, spare, too_many, in_hand, in_wrong_hand}
+use Rattle.core_state.specs.Tests.{is_compute, is_made, is_unmade, is_close, is_close_from, is_notify, is_suspect, is_spent, is_computed, is_written, is_closed, is_replaced}
 use Rattle.core_state.specs.Change.{Core, many}
 use Rattle.core_state.specs.Laws.{IsPlace}
 use Rattle.core_state.specs.Rows.{HasKey}

@@ -1,7 +1,7 @@
 //! What the word that a step found answers.
 ghost use Rattle.std.specs.Prelude.{◌≡◌, ◌<◌, ◌≤◌, ◌^◌};
 ghost use Rattle.core_state.specs.Packed.{IsLife};
-ghost use Rattle.core_state.specs.Events.{place_mask, told_of, registered_of, closing_of, elected_of, hitting_of};
+ghost use Rattle.core_state.specs.Effects.{place_mask, told_of, registered_of, closing_of, elected_of, hitting_of};
 
 use super::words::{Descriptor, NotifyWord, Recovery, SELF_PLACE};
 use graph_model::Key;

@@ -7,6 +7,7 @@ mod course;
 mod job;
 mod layout;
 mod rooted;
+mod row_words;
 mod views;
 mod words;
 
@@ -16,5 +17,6 @@ pub use course::Course;
 pub use job::Job;
 pub use layout::Layout;
 pub use rooted::{ROOT, Rooted};
+pub use row_words::RowWords;
 pub use views::{Ended, Hand, Item, Known, Stack, View, Word};
 pub use words::{Descriptor, GREATEST_LIFE, NotifyWord, PORTS_PER_WORD, Recovery, SELF_PLACE};

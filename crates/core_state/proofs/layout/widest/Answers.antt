@@ -1,5 +1,5 @@
 use Rattle.std.proofs.Common.{◌+◌, subst, sym, arith}
-use Rattle.core_state.proofs.Widest.{WidestOf, is_task, widest_none, widest_more, widest_whole}
+use Rattle.core_state.proofs.Start.Widest.{WidestOf, is_task, widest_none, widest_more, widest_whole}
 use Rattle.core_state.proofs.layout.widest.Goals as goal
 
 pub loop-i-init : goal.loop-i-init

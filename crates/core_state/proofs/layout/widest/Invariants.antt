@@ -1,4 +1,4 @@
-use Rattle.core_state.proofs.Widest.{WidestOf}
+use Rattle.core_state.proofs.Start.Widest.{WidestOf}
 use Rattle.core_state.proofs.layout.widest.Given as goal
 
 -- the number so far is the widest of the tasks so far

@@ -1,5 +1,5 @@
 use Rattle.std.proofs.Common.{◌≡◌, ◌∙◌, ◌<◌, ap, sym, subst, arith}
-use Rattle.core_state.proofs.Widest.{sink_task, filled}
+use Rattle.core_state.proofs.Start.Widest.{sink_task, filled}
 use Rattle.core_state.proofs.layout.Layout.of.Goals as goal
 
 pub block-requires : goal.block-requires

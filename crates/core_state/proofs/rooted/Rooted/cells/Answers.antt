@@ -1,5 +1,5 @@
 use Rattle.std.proofs.Common.{◌<◌, sym, subst}
-use Rattle.core_state.proofs.Widest.{sink_task}
+use Rattle.core_state.proofs.Start.Widest.{sink_task}
 use Rattle.core_state.proofs.rooted.Rooted.cells.Goals as goal
 
 pub block-requires : goal.block-requires

@@ -1,5 +1,5 @@
 use Rattle.std.proofs.Common.{◌<◌, arith}
-use Rattle.core_state.proofs.Asking.{in_some}
+use Rattle.core_state.proofs.Start.Asked.{in_some}
 use Rattle.core_state.proofs.rooted.Rooted.is_input.Goals as goal
 
 pub pred-requires-clause-place : goal.pred-requires-clause-place

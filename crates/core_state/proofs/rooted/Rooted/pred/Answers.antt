@@ -1,5 +1,5 @@
-use Rattle.core_state.proofs.Widest.{sink_task}
-use Rattle.core_state.proofs.Asking.{task_of, pred_is_task}
+use Rattle.core_state.proofs.Start.Widest.{sink_task}
+use Rattle.core_state.proofs.Start.Asked.{task_of, pred_is_task}
 use Rattle.core_state.proofs.rooted.Rooted.pred.Goals as goal
 
 pub succ_count-requires : goal.succ_count-requires

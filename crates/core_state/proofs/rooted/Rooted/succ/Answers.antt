@@ -1,4 +1,4 @@
-use Rattle.core_state.proofs.Asking.{task_with_port, succ_is_key}
+use Rattle.core_state.proofs.Start.Asked.{task_with_port, succ_is_key}
 use Rattle.core_state.proofs.rooted.Rooted.succ.Goals as goal
 
 pub returns-else-eq-clause-key : goal.returns-else-eq-clause-key

@@ -1,5 +1,5 @@
 use Rattle.std.proofs.Common.{arith}
-use Rattle.core_state.proofs.Bits.{low_bits}
+use Rattle.core_state.proofs.Base.Bits.{low_bits}
 use Rattle.core_state.proofs.words.Descriptor.of_word.Goals as goal
 
 pub returns-clause-places : goal.returns-clause-places

@@ -1,4 +1,4 @@
-use Rattle.core_state.proofs.Bits.{low_bits}
+use Rattle.core_state.proofs.Base.Bits.{low_bits}
 use Rattle.core_state.proofs.words.NotifyWord.of_word.Goals as goal
 
 pub returns-clause-registered : goal.returns-clause-registered

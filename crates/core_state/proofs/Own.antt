@@ -1,0 +1,4 @@
+-- What the invariant says of one view, and of a word that it finds.
+pub mod Sure
+pub mod Found
+pub mod Answers
