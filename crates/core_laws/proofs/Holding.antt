@@ -1,5 +1,5 @@
 -- What holds with any views with which a closed core is as the invariant says.
-use Rattle.std.proofs.Common.{◌≡◌, ℕ, ◌<◌, List, [], ℤ, get_or, ⊎_elim, inl, inr, arith, sym, ap, refl, ◌∙◌, Option, Some, None}
+use Rattle.std.proofs.Common.{◌≡◌, ℕ, zero, suc, ◌+◌, ◌<◌, Bool, true, false, List, [], ◌∷◌, ℤ, get_or, ⊎_elim, inl, inr, arith, sym, ap, refl, ◌∙◌, subst, Option, Some, None}
 use mathlib.Core.Logic.{dite}
 use native.Mathlib.Decide.{ℕ_discrete, dec_lt}
 use Rattle.std.proofs.Math.Logic.{∥∥₁_elim, ∥∥₁_map}
@@ -8,25 +8,47 @@ use Rattle.std.proofs.Math.Nat.{ℕ_set}
 use Rattle.std.specs.Coded.{Coded-set, coded_option, coded_list, coded_ℤ}
 use Rattle.core_state.specs.Graph.{Setting}
 use Rattle.core_state.specs.Words.{pending}
-use Rattle.core_state.specs.Counts.{count, is_any_struck, is_any_replaced}
-use Rattle.core_state.specs.Change.{Sums, block_of, cells_or}
-use Rattle.core_state.specs.Laws.{SpentOnce, ComputedOnce, ReplacedOnce, CausesShown, LivesNamed, SpentByEdge, FaultFree, IsGrounded}
+use Rattle.core_state.specs.Counts.{count, items, noted, total_of}
+use Rattle.core_state.specs.Tests.{is_any_struck, is_any_replaced, is_of, is_replaced, is_suspect_for}
+use Rattle.core_state.specs.Change.{Core, Sums, block_of, cells_or}
+use Rattle.core_state.specs.Laws.{SpentOnce, ComputedOnce, ReplacedOnce, CausesShown, LivesNamed, SpentByEdge, FaultFree, IsGrounded, SixLaws, LawfulRecords, Planned, Played}
 use Rattle.core_state.specs.Invariant.{IsQuiet, Finished}
 use Rattle.core_state.specs.declared.block.BlockCells.{BlockCells}
+use Rattle.core_state.specs.declared.views.Item.{Item}
 use Rattle.core_state.specs.declared.views.View.{View}
-use Rattle.core_state.proofs.Kept.{nothing_else, none_of_root, list_spent, list_computed, list_replaced, list_lives, list_edges}
-use Rattle.core_state.proofs.ListCauses.{list_causes, root_once, root_before, root_shown}
-use Rattle.core_state.proofs.Quiet.{finished, root_home}
-use Rattle.core_state.proofs.Spots.{read_at}
-use Rattle.core_state.proofs.Stepping.{state_sums}
-use Rattle.core_state.proofs.Undisturbed.{fault_free, root_stays}
-use Rattle.core_steps.specs.Table.{IsClosing, ShowsCells, ShowsRoot, core_by, home_at, is_root_replaced}
-use Rattle.core_steps.proofs.Rooting.{none_held}
-use Rattle.core_laws.specs.Lists.{AreOfTasks, RootReplaced, RootShown}
+use Rattle.core_state.proofs.End.Lists.{count_below, within, nothing_else, none_of_root, list_spent, list_computed, list_replaced, list_lives, list_edges}
+use Rattle.core_state.proofs.End.Causes.{list_causes, list_suspected, root_suspected, root_once, root_before, root_shown}
+use Rattle.core_state.proofs.Row.Made.{replaced_of}
+use Rattle.core_state.proofs.Plan.PlayedList.{list_planned, list_played}
+use Rattle.core_state.proofs.End.Quiet.{finished, root_home}
+use Rattle.core_state.proofs.Base.Words.{read_at}
+use Rattle.core_state.proofs.Base.Tables.{state_sums}
+use Rattle.core_state.proofs.End.NoFault.{fault_free, root_stays}
+use Rattle.core_steps.specs.Seat.{cells_in}
+use Rattle.core_steps.specs.Table.{IsClosing, ShowsCells, ShowsRoot, core_by, home_at, is_kept, is_root_replaced, view_in}
+use Rattle.core_steps.proofs.Rooting.{none_held, root_value}
+use Rattle.core_laws.specs.Lists.{AreOfTasks, RootReplaced, RootShown, SuspectShown}
+use Rattle.graph_model.specs.declared.record.Cause.{Cause}
 use Rattle.graph_model.specs.declared.record.Record.{Record}
 
 absurd_alike : (x y : ⊥) → x ≡ y
 absurd_alike x y = absurd x
+
+-- what one view has is among what all have
+seen_total : (p : Item → Bool) (vs : List View) (i : ℕ) → 0 < items p (view_in vs i) → 0 < total_of vs (items p)
+unfolding total_of
+seen_total p [] i z = absurd (omega (arith, z))
+seen_total p (v ∷ vs) zero z = omega (arith, z)
+seen_total p (v ∷ vs) (suc i) z = let a = seen_total p vs i z in omega (arith, a)
+
+-- a value that is there, and the list that it is
+abbrev is_there : {A : Type 0} → Option A → Bool
+is_there None = false
+is_there (Some x) = true
+
+abbrev or_nothing : {A : Type 0} → Option (List A) → List A
+or_nothing None = []
+or_nothing (Some x) = x
 
 -- what a block that was written shows
 shows_full : (x : BlockCells) (v : List ℤ) (root : Option (List ℤ)) → 0 < x.tag → x.cells ≡ v → ShowsCells x root → root ≡ Some v
@@ -45,20 +67,57 @@ module _ (e : Setting) (ws : List ℕ) (bs : List (Option BlockCells)) (xs rs : 
     unfolding block_of
     root_at_home none = ap (cells_or (home_at bs (e.graph.block e.graph.root))) (none_held (e.graph.block e.graph.root) vs (root_home e z.setting (core_by e.shape ws bs vs) sums z.holds (is_quiet none)))
 
-    root_value : (root : Option (List ℤ)) → get_or ws 0 0 ≡ 0 → ShowsRoot e bs root → root ≡ Some (e.graph.value e.graph.sink)
-    root_value root none shows = let o : Finished e (core_by e.shape ws bs vs) = finished e z.setting (core_by e.shape ws bs vs) sums z.holds (is_quiet none) in let home = root_at_home none in
+    finished_value : (root : Option (List ℤ)) → get_or ws 0 0 ≡ 0 → ShowsRoot e bs root → root ≡ Some (e.graph.value e.graph.sink)
+    finished_value root none shows = let o : Finished e (core_by e.shape ws bs vs) = finished e z.setting (core_by e.shape ws bs vs) sums z.holds (is_quiet none) in let home = root_at_home none in
         shows_full (home_at bs (e.graph.block e.graph.root)) (e.graph.value e.graph.sink) root (let a = o.root_tag in let b = ap (λ (x : BlockCells). x.tag) home in omega (arith, a, b)) (sym (ap (λ (x : BlockCells). x.cells) home) ∙ o.root_cells) shows
+
+    -- what is written in the root's block at home is the sink's value
+    written_value : (x : List ℤ) (root : Option (List ℤ)) → root ≡ Some x → ShowsRoot e bs root → x ≡ e.graph.value e.graph.sink
+    written_value x None is shows = absurd (let a = ap (is_there {A = List ℤ}) is in cc)
+    written_value x (Some y) is shows = by (get_or bs (e.graph.block e.graph.root) None) refl
+      where
+        by : (home : Option BlockCells) → get_or bs (e.graph.block e.graph.root) None ≡ home → x ≡ e.graph.value e.graph.sink
+        by None at = absurd (let a = shows.0 in let b = ap (λ h. (cells_in h).tag) at in omega (arith, a, b))
+        by (Some block) at = sym (ap (or_nothing {A = ℤ}) is) ∙ sym (sym (ap (λ h. (cells_in h).cells) at) ∙ shows.1) ∙ root_value e z.setting e.shape ws bs vs z.holds z.at_home block at (let a = shows.0 in let b = ap (λ h. (cells_in h).tag) at in omega (arith, a, b)) ∙ z.setting.lawful.root_value
+
+    lives_from_one : (k : ℕ) → count (is_of k 0) xs ≡ 0
+    lives_from_one k = let a = within e z.setting (core_by e.shape ws bs vs) sums z.holds (is_kept e.graph.root) xs z.others (is_of k 0) in let b = z.holds.records.some_life k in omega (arith, a, b)
+
+    six : SixLaws e.graph xs
+    six = let s : Core = core_by e.shape ws bs vs in record {
+      spent = list_spent e z.setting s sums z.holds xs z.others;
+      computed = list_computed e z.setting s sums z.holds xs z.others;
+      replaced = list_replaced e z.setting s sums z.holds xs z.others;
+      causes = list_causes e z.setting s sums z.holds xs z.others;
+      lives = list_lives e z.setting s sums z.holds xs z.others;
+      edges = list_edges e z.setting s sums z.holds xs z.others;
+    }
+
+    plan_played : get_or ws 0 0 ≡ 0 → Played e.graph e.plan (λ p. count p xs)
+    plan_played none = list_played e z.setting (core_by e.shape ws bs vs) sums z.holds xs z.others z.passed z.prevented (is_quiet none)
+
+    pub suspect_shown : (i k l : ℕ) (c : Cause) → 0 < items (is_suspect_for k l c) (view_in vs i) → SuspectShown e xs rs k l c
+    suspect_shown i k l c some = let s : Core = core_by e.shape ws bs vs in let there : 0 < s.total (items (is_suspect_for k l c)) = seen_total (is_suspect_for k l c) vs i some in let a = list_suspected e z.setting s sums z.holds xs z.others k l c there in
+        record { shown = a.0; some_life = a.1; most = a.2; root = λ is m from low. root_suspected e z.setting s sums z.holds xs z.others rs z.replaced l c (subst (λ y. 0 < s.total (items (is_suspect_for y l c))) is there) m from low }
 
     root_only : RootReplaced e.graph rs
     root_only = record {
       only = nothing_else e z.setting (core_by e.shape ws bs vs) sums z.holds (is_root_replaced e.graph.root) rs z.replaced;
       once = root_once e z.setting (core_by e.shape ws bs vs) sums z.holds xs z.others rs z.replaced;
+      some_life = let k : ℕ = e.graph.root in let a = within e z.setting (core_by e.shape ws bs vs) sums z.holds (is_root_replaced k) rs z.replaced (is_replaced k 0) in
+          let b = sums.below (noted (is_replaced k 0)) (noted (is_of k 0)) (λ v. count_below (is_replaced k 0) (is_of k 0) (replaced_of k 0) v.records) in let c = z.holds.records.some_life k in omega (arith, a, b, c);
       before = root_before e z.setting (core_by e.shape ws bs vs) sums z.holds xs z.others rs z.replaced;
     }
 
   module _ (m : ∥ ((vs : List View) × IsClosing e vs ws bs xs rs) ∥₁) where
     pub value_shown : (root : Option (List ℤ)) → ∥ ShowsRoot e bs root ∥₁ → get_or ws 0 0 ≡ 0 → root ≡ Some (e.graph.value e.graph.sink)
-    value_shown root shows none = ∥∥₁_elim m (Coded-set (coded_option (coded_list coded_ℤ)) _ _) (λ z. ∥∥₁_elim shows (Coded-set (coded_option (coded_list coded_ℤ)) _ _) (root_value z.0 z.1 root none))
+    value_shown root shows none = ∥∥₁_elim m (Coded-set (coded_option (coded_list coded_ℤ)) _ _) (λ z. ∥∥₁_elim shows (Coded-set (coded_option (coded_list coded_ℤ)) _ _) (finished_value z.0 z.1 root none))
+
+    pub value_written : (root : Option (List ℤ)) → ∥ ShowsRoot e bs root ∥₁ → (x : List ℤ) → root ≡ Some x → x ≡ e.graph.value e.graph.sink
+    value_written root shows x is = ∥∥₁_elim m (Coded-set (coded_list coded_ℤ) _ _) (λ z. ∥∥₁_elim shows (Coded-set (coded_list coded_ℤ) _ _) (written_value z.0 z.1 x root is))
+
+    pub from_one : (k : ℕ) → count (is_of k 0) xs ≡ 0
+    from_one k = ∥∥₁_elim m (ℕ_set _ _) (λ z. lives_from_one z.0 z.1 k)
 
     pub of_tasks : AreOfTasks e.graph xs
     of_tasks = ∥∥₁_elim m (ℕ_set _ _) (λ z. none_of_root e z.1.setting (core_by e.shape ws bs z.0) (sums z.0 z.1) z.1.holds xs z.1.others)
@@ -98,3 +157,15 @@ module _ (e : Setting) (ws : List ℕ) (bs : List (Option BlockCells)) (xs rs : 
 
     pub root_unreplaced : count is_any_struck xs ≡ 0 → count is_any_replaced rs ≡ 0
     root_unreplaced none = ∥∥₁_elim m (ℕ_set _ _) (λ z. root_stays e z.1.setting (core_by e.shape ws bs z.0) (sums z.0 z.1) z.1.holds xs z.1.others rs z.1.replaced none)
+
+    pub six_laws : ∥ SixLaws e.graph xs ∥₁
+    six_laws = ∥∥₁_map m (λ z. six z.0 z.1)
+
+    pub all_laws : get_or ws 0 0 ≡ 0 → ∥ LawfulRecords e.graph xs ∥₁
+    all_laws none = ∥∥₁_map m (λ z. record { six = six z.0 z.1; fault_free = fault_free e z.1.setting (core_by e.shape ws bs z.0) (sums z.0 z.1) z.1.holds xs z.1.others (is_quiet z.0 z.1 none) })
+
+    pub landed_planned : Planned e.graph e.plan (λ p. count p xs)
+    landed_planned = ∥∥₁_elim m (hlevel (le_prop, ℕ_set)) (λ z. list_planned e z.1.setting (core_by e.shape ws bs z.0) (sums z.0 z.1) z.1.holds xs z.1.others)
+
+    pub played_plan : get_or ws 0 0 ≡ 0 → Played e.graph e.plan (λ p. count p xs)
+    played_plan none = ∥∥₁_elim m (hlevel (le_prop, ℕ_set)) (λ z. plan_played z.0 z.1 none)

@@ -1,30 +1,30 @@
--- Taking a block keeps a plain table sound, and so does a turn that another seat has.
-use Rattle.std.proofs.Common.{◌≡◌, ◌≢◌, ℕ, ◌+◌, ◌<◌, Bool, false, cond, ne_eqb, [], ◌∷◌, length, get_or, set, length-set, get_or-set_same, arith, sym, ap, refl, ◌∙◌, subst, Option, Some, None}
+-- Taking a block keeps a plain table sound.
+use Rattle.std.proofs.Common.{◌≡◌, ◌≢◌, ℕ, ◌+◌, ◌<◌, Bool, false, cond, ne_eqb, length, get_or, set, length-set, get_or-set_same, arith, sym, ap, refl, ◌∙◌, subst, Option, Some, None}
 use mathlib.Core.Option.{some}
 use Rattle.core_state.specs.Graph.{Setting}
 use Rattle.core_state.specs.Words.{place_of, turn}
 use Rattle.core_state.specs.Counts.{bump, in_hand, total_of}
-use Rattle.core_state.specs.Change.{Change, block_of, cells_or, held_in, no_cells}
-use Rattle.core_state.specs.Calls.{CanTakeTurn}
-use Rattle.core_state.specs.Events.{after_take_turn}
-use Rattle.core_state.specs.Views.{blank, settle}
+use Rattle.core_state.specs.Change.{block_of, cells_or, held_in}
+use Rattle.core_state.specs.Guards.{CanTakeTurn}
+use Rattle.core_state.specs.Events.{after, left}
+use Rattle.core_state.specs.Events.Event.{take_turn}
+use Rattle.core_state.specs.Views.{blank}
 use Rattle.core_state.specs.declared.block.BlockCells.{BlockCells}
 use Rattle.core_state.specs.declared.views.View.{View}
-use Rattle.core_state.proofs.Cases.{eqb_here}
-use Rattle.core_state.proofs.Spots.{read_at}
-use Rattle.core_state.proofs.Stepping.{state_sums}
-use Rattle.core_state.proofs.Sums.{total_set}
-use Rattle.core_state.proofs.Turns.{keeps_take_turn}
-use Rattle.core_steps.proofs.BlocksMoved.{held_one, moved_step, turn_inside}
-use Rattle.core_steps.proofs.Changing.{blocks_same, elem_at}
-use Rattle.core_steps.proofs.Noting.{same_keeps}
+use Rattle.core_state.proofs.Base.Counting.{eqb_here}
+use Rattle.core_state.proofs.Base.Words.{read_at}
+use Rattle.core_state.proofs.Base.Sums.{total_set}
+use Rattle.core_steps.proofs.BlocksMoved.{held_one, turn_stands, turn_inside}
+use Rattle.core_steps.proofs.Changing.{elem_at}
 use Rattle.core_steps.proofs.Rooting.{none_held}
-use Rattle.core_steps.proofs.Sounding.{quiet_step, with_step}
+use Rattle.core_steps.proofs.Sounding.{sound_quiet}
 use Rattle.core_steps.specs.Seat.{cells_in}
-use Rattle.core_steps.specs.Table.{Plain, view_at, home_at, core_by, taken_by, IsSound}
+use Rattle.core_steps.specs.Table.{Plain, view_at, home_at, taken_by, IsSound, IsTableStep, IsWordAt}
+use Rattle.core_steps.specs.declared.kinds.Touched.{Touched}
+use Rattle.core_steps.proofs.TableSteps.{table_step}
 
 module _ (e : Setting) (p : Plain) (i : ℕ) (low : i < length p.views) (s : IsSound e p) (b : ℕ) (can : CanTakeTurn e (view_at p i) b) where
-  in_table : b < p.shape.blocks
+  pub in_table : b < p.shape.blocks
   in_table = subst (λ h. b < h.blocks) (sym s.shape_is) can.low
 
   pub turn_word : get_or p.words (place_of p.shape (turn b)) 0 ≡ total_of p.views (in_hand b)
@@ -34,23 +34,12 @@ module _ (e : Setting) (p : Plain) (i : ℕ) (low : i < length p.views) (s : IsS
   pub turn_one : get_or p.words (place_of p.shape (turn b)) 0 ≢ 0 → get_or p.words (place_of p.shape (turn b)) 0 ≡ 1
   turn_one ne = let a = turn_word in let f = (s.holds.blocks.each b can.low).once in omega (arith, a, f, ne)
 
-  -- another seat has the block
-  pub sound_refused : (n : ℕ) → get_or p.words (place_of p.shape (turn b)) 0 ≡ n → n ≢ 0 → IsSound e (with_step p (turn b) n i (settle e.graph e.plan (after_take_turn b no_cells n (view_at p i))))
-  sound_refused n is ne = let v : View = view_at p i in let same : after_take_turn b no_cells n (view_at p i) ≡ view_at p i = ap (λ (y : Bool). cond y (record (view_at p i) { hands = record { block = b; held = no_cells } ∷ (view_at p i).hands }) (view_at p i)) (ne_eqb n 0 ne) in
-      subst (λ w. IsSound e (with_step p (turn b) n i (settle e.graph e.plan w))) (sym same)
-      (quiet_step e p i low s (turn b) n (view_at p i) (turn_inside e p i low s b in_table) refl refl
-      (λ c. keeps_take_turn e s.setting (core_by p.shape p.words p.blocks p.views) (core_by p.shape (set p.words (place_of p.shape (turn b)) n) p.blocks (set p.views i (view_at p i)))
-      (state_sums {S = BlockCells} p.shape (λ _. home_at p.blocks) (record { words = p.words; homes = []; views = p.views })) b n no_cells (view_at p i) can
-      (blocks_same (home_at p.blocks) b p.views i (view_at p i) (view_at p i) (elem_at p.views i blank low) refl) s.holds
-      (subst (λ (y : Bool). Change (core_by p.shape p.words p.blocks p.views) (core_by p.shape (set p.words (place_of p.shape (turn b)) n) p.blocks (set p.views i (view_at p i))) (turn b) n (cond y 1 n) (view_at p i) (cond y (record (view_at p i) { hands = record { block = b; held = no_cells } ∷ (view_at p i).hands }) (view_at p i))) (sym (ne_eqb n 0 ne))
-      (subst (λ m. Change (core_by p.shape p.words p.blocks p.views) (core_by p.shape (set p.words (place_of p.shape (turn b)) n) p.blocks (set p.views i (view_at p i))) (turn b) m n (view_at p i) (view_at p i)) is c))))
-
   -- nobody has the block
   module _ (free : get_or p.words (place_of p.shape (turn b)) 0 ≡ 0) where
-    none_has : total_of p.views (in_hand b) ≡ 0
+    pub none_has : total_of p.views (in_hand b) ≡ 0
     none_has = sym turn_word ∙ free
 
-    at_home : block_of (home_at p.blocks) p.views b ≡ home_at p.blocks b
+    pub at_home : block_of (home_at p.blocks) p.views b ≡ home_at p.blocks b
     unfolding block_of
     at_home = ap (cells_or (home_at p.blocks b)) (none_held b p.views none_has)
 
@@ -65,25 +54,28 @@ module _ (e : Setting) (p : Plain) (i : ℕ) (low : i < length p.views) (s : IsS
     home_sized = sym (ap (λ (x : BlockCells). length x.cells) at_home) ∙ s.housed.sized b in_table
 
     abbrev taker : View
-    taker = record (view_at p i) { hands = record { block = b; held = home_at p.blocks b } ∷ (view_at p i).hands }
+    taker = after e (take_turn b (home_at p.blocks b)) 0 (view_at p i)
 
-    one_has : total_of (set p.views i taker) (in_hand b) ≡ 1
+    pub one_has : total_of (set p.views i taker) (in_hand b) ≡ 1
     one_has = let v : View = view_at p i in let a = total_set p.views i (view_at p i) taker (in_hand b) (elem_at p.views i blank low) in let f = none_has in
         let g : in_hand b taker ≡ in_hand b (view_at p i) + 1 = ap (λ (y : Bool). bump y (in_hand b (view_at p i))) (eqb_here b) ∙ omega arith in omega (arith, a, f, g)
 
-    stays : block_of (home_at (set p.blocks b None)) (set p.views i taker) b ≡ block_of (home_at p.blocks) p.views b
+    pub stays : block_of (home_at (set p.blocks b None)) (set p.views i taker) b ≡ block_of (home_at p.blocks) p.views b
     unfolding block_of
     stays = ap (cells_or (home_at (set p.blocks b None) b)) (held_one b (set p.views i taker) i taker (home_at p.blocks b) (elem_at (set p.views i taker) i blank (let a = length-set p.views i taker in omega (arith, a, low)) ∙ ap some (get_or-set_same p.views i taker blank low))
         (ap (λ (y : Bool). cond y (some (home_at p.blocks b)) (held_in b (view_at p i).hands)) (eqb_here b)) (let a = one_has in let f : in_hand b taker ≡ in_hand b (view_at p i) + 1 = ap (λ (y : Bool). bump y (in_hand b (view_at p i))) (eqb_here b) ∙ omega arith in omega (arith, a, f))) ∙ sym at_home
 
     pub sound_taken : IsSound e (taken_by e p i b)
-    sound_taken = moved_step e p i low s b in_table taker None
+    sound_taken = sound_quiet e p i taker (set p.words (place_of p.shape (turn b)) 1) (set p.blocks b None) s low
+        (turn_stands e p i low s b in_table taker None
         (λ d ne. (ap (λ (y : Bool). cond y (some (home_at p.blocks b)) (held_in d (view_at p i).hands)) (ne_eqb d b ne), ap (λ (y : Bool). bump y (in_hand d (view_at p i))) (ne_eqb d b ne)))
-        1 p.stores record { at_home = λ x q. absurd cc; away = λ q. let a = one_has in omega (arith, a); sized = ap (λ (x : BlockCells). length x.cells) stays ∙ s.housed.sized b in_table } refl (same_keeps e p i low s taker refl)
-        (λ c. keeps_take_turn e s.setting (core_by p.shape p.words p.blocks p.views) (core_by p.shape (set p.words (place_of p.shape (turn b)) 1) (set p.blocks b None) (set p.views i taker))
-        (state_sums {S = BlockCells} p.shape (λ _. home_at p.blocks) (record { words = p.words; homes = []; views = p.views })) b 0 (home_at p.blocks b) (view_at p i) can stays s.holds
-        (subst (λ m. Change (core_by p.shape p.words p.blocks p.views) (core_by p.shape (set p.words (place_of p.shape (turn b)) 1) (set p.blocks b None) (set p.views i taker)) (turn b) m 1 (view_at p i) taker) free c))
+        (take_turn b (home_at p.blocks b)) 0 1 refl free refl refl can record { at_home = λ x q. absurd cc; away = λ q. let a = one_has in omega (arith, a); sized = ap (λ (x : BlockCells). length x.cells) stays ∙ s.housed.sized b in_table } at_home stays) refl
 
     -- unstruck, it holds the value of its version
     pub home_good : (home_at p.blocks b).struck ≡ false → 0 < (home_at p.blocks b).tag → (home_at p.blocks b).cells ≡ e.graph.value (e.graph.writer b (home_at p.blocks b).tag)
     home_good = subst (λ (x : BlockCells). x.struck ≡ false → 0 < x.tag → x.cells ≡ e.graph.value (e.graph.writer b x.tag)) at_home (s.holds.blocks.each b can.low).holds.good
+
+  -- and what it is as a step
+  pub taken_step : (t : Touched) → IsWordAt p (turn b) t → t.found ≡ 0 → IsSound e (taken_by e p i b) → IsTableStep e i (take_turn b (home_at p.blocks b)) t p (taken_by e p i b)
+  taken_step t word zero now = table_step e i (take_turn b (home_at p.blocks b)) t p (taken_by e p i b) low can word s now
+      (λ j. set p.words (sym word.at_is j) (left e (take_turn b (home_at p.blocks b)) (sym zero j))) (λ j. set p.views i (after e (take_turn b (home_at p.blocks b)) (sym zero j) (view_at p i)))

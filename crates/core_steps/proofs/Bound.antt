@@ -4,7 +4,8 @@ use mathlib.Core.Logic.{dite}
 use native.Mathlib.Decide.{ℕ_discrete, dec_lt}
 use Rattle.core_state.specs.Graph.{Setting, Sound, greatest_life}
 use Rattle.core_state.specs.Words.{Spot, pending, key, descriptor, recovery, posted, life_of, standing_life, replacing}
-use Rattle.core_state.specs.Counts.{hit, bump, count, two, same_job, items, in_stacks, is_at, is_owe, is_owed, carries, came_with, owed, held, ended, begun, came, stack_count, spare, too_many, total_of}
+use Rattle.core_state.specs.Counts.{hit, bump, count, items, in_stacks, owed, held, ended, begun, came, stack_count, spare, too_many, total_of}
+use Rattle.core_state.specs.Tests.{two, same_job, is_at, is_owe, is_owed, carries, came_with}
 use Rattle.core_state.specs.Change.{Core, Sums}
 use Rattle.core_state.specs.Rows.{HasKey, HasRow}
 use Rattle.core_state.specs.Work.{job_count, posted_count}
@@ -15,9 +16,9 @@ use Rattle.core_state.specs.declared.views.Item.{Item}
 use Rattle.core_state.specs.declared.views.Item.TheVariants as item
 use Rattle.core_state.specs.declared.views.Stack.{Stack}
 use Rattle.core_state.specs.declared.views.View.{View}
-use Rattle.core_state.proofs.Cases.{bump_is, eqb_here, two_here}
-use Rattle.core_state.proofs.Claiming.{fewer_items}
-use Rattle.core_state.proofs.Made.{carries_at, owed_at}
+use Rattle.core_state.proofs.Base.Counting.{bump_is, eqb_here, two_here}
+use Rattle.core_state.proofs.Row.View.{fewer_items}
+use Rattle.core_state.proofs.Row.Made.{carries_at, owed_at}
 use Rattle.core_steps.proofs.Changing.{all_count}
 
 sum_upto : ℕ → (ℕ → ℕ) → ℕ
@@ -170,7 +171,7 @@ module _ (e : Setting) (fit : Sound e) (s : Core) (sums : Sums s) (i : Invariant
       (λ some. dite (ℕ_discrete (s.total (owed j k l)) 0)
       (λ no. dite (ℕ_discrete (s.total (begun j k l)) 0) (λ none. omega (arith, no, none))
       (λ has. let row = begun_row j k l (omega (arith, has)) in let a = job_once row.0 k l row.1 j (omega (arith, some)) in let b = begun_is j k l in omega (arith, a, b, no)))
-      (λ has. let row = row_of k (Rattle.core_state.specs.Counts.is_owed j k l) (owed_at j k l) (omega (arith, has)) in let a = job_once row.0 k l row.1 j (omega (arith, some)) in let b = begun_is j k l in omega (arith, a, b)))
+      (λ has. let row = row_of k (Rattle.core_state.specs.Tests.is_owed j k l) (owed_at j k l) (omega (arith, has)) in let a = job_once row.0 k l row.1 j (omega (arith, some)) in let b = begun_is j k l in omega (arith, a, b)))
 
   abbrev GoodKey : ℕ → ℕ → Type 0
   GoodKey k l = (r : ℕ) × (r < e.shape.rows) × (s.word (key r) - 1 ≡ k) × (l < 65536)
@@ -179,7 +180,7 @@ module _ (e : Setting) (fit : Sound e) (s : Core) (sums : Sums s) (i : Invariant
   good_row k l row low = let a = row.1.1 in (row.0, row.1.0, omega (arith, a), omega (arith, low))
 
   pub good_owed : (j : Job) (k l : ℕ) → 0 < s.total (owed j k l) → GoodKey k l
-  good_owed j k l z = let row = row_of k (Rattle.core_state.specs.Counts.is_owed j k l) (owed_at j k l) z in good_row k l row (job_life row.0 k l row.1 j (omega (arith, z)))
+  good_owed j k l z = let row = row_of k (Rattle.core_state.specs.Tests.is_owed j k l) (owed_at j k l) z in good_row k l row (job_life row.0 k l row.1 j (omega (arith, z)))
 
   pub good_came : (j : Job) (k l : ℕ) → 0 < s.total (came j k l) → GoodKey k l
   good_came j k l z = let a = i.work.jobs.came j k l in let some : 0 < s.total (begun j k l) = omega (arith, a, z) in let row = begun_row j k l some in good_row k l row (job_life row.0 k l row.1 j (let b = begun_is j k l in omega (arith, some, b)))

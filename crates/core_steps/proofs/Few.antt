@@ -5,16 +5,16 @@ use Rattle.core_state.specs.Words.{pending, key, posted, place_of}
 use Rattle.core_state.specs.Change.{Core}
 use Rattle.core_state.specs.Counts.{stack_count, spare, knows_row}
 use Rattle.core_state.specs.Views.{blank}
-use Rattle.core_state.specs.Calls.{KnowsRow, CanDropCredit}
-use Rattle.core_state.specs.Calls.CanDropCredit.{idle_stack, spare_credit}
+use Rattle.core_state.specs.Guards.{KnowsRow, CanDropCredit}
+use Rattle.core_state.specs.Guards.CanDropCredit.{idle_stack, spare_credit}
 use Rattle.core_state.specs.declared.job.Job.{Job}
-use Rattle.core_state.proofs.Calm.{idle_length}
-use Rattle.core_state.proofs.Sums.{total_within}
+use Rattle.core_state.proofs.Credit.Keeps.{idle_length}
+use Rattle.core_state.proofs.Base.Sums.{total_within}
 use Rattle.std.proofs.lemmas.Bool.{lt-ltb}
 use Rattle.core_steps.proofs.Changing.{elem_at}
 use Rattle.core_state.specs.declared.block.BlockCells.{BlockCells}
-use Rattle.core_state.proofs.Spots.{read_at}
-use Rattle.core_state.proofs.Stepping.{state_sums}
+use Rattle.core_state.proofs.Base.Words.{read_at}
+use Rattle.core_state.proofs.Base.Tables.{state_sums}
 use Rattle.core_steps.specs.Table.{Plain, IsSound, core_by, home_at, view_at}
 use Rattle.core_steps.proofs.Bound.{few_owed, few_stacks, posted_low, good_owed, good_came, once_owed, once_came, pending_low}
 

@@ -15,10 +15,10 @@ use Rattle.core_state.specs.declared.block.BlockCells.{BlockCells}
 use Rattle.core_state.specs.declared.views.View.{View}
 use Rattle.graph_model.specs.declared.record.Record.{Record}
 use Rattle.graph_model.specs.declared.record.Record.TheVariants as record_of
-use Rattle.core_state.proofs.Cases.{eqb_here}
-use Rattle.core_state.proofs.JobWords.{and_false}
-use Rattle.core_state.proofs.Opened.{opening}
-use Rattle.core_state.proofs.Spots.{read_here, read_else}
+use Rattle.core_state.proofs.Base.Counting.{eqb_here}
+use Rattle.core_state.proofs.Credit.JobView.{and_false}
+use Rattle.core_state.proofs.Start.Keeps.{opening, opening_passed, opening_prevented}
+use Rattle.core_state.proofs.Base.Words.{read_here, read_else}
 use Rattle.core_steps.specs.Table.{Stored, IsSound, IsFilled, IsUnwritten, IsBare, first_words, first_views, word_count, core_by, home_at, is_kept, is_root_replaced}
 use Rattle.core_steps.proofs.Changing.{low_place}
 use Rattle.core_steps.proofs.Housing.{housed_first}
@@ -95,7 +95,7 @@ module _ (e : Setting) (fit : Sound e) (workers : ℕ) (blocks : List (Option Bl
   unfolding block_of
   block_first b = ap (cells_or (home_at blocks b)) (none_held (workers - 1) b)
 
-  opens : Opening e (core_by e.shape (first_words e) blocks (first_views e workers))
+  pub opens : Opening e (core_by e.shape (first_words e) blocks (first_views e workers))
   opens = record {
     parts_of = all_parts - (workers - 1);
     words = words_first;
@@ -114,6 +114,8 @@ module _ (e : Setting) (fit : Sound e) (workers : ℕ) (blocks : List (Option Bl
     root_is = root_is;
     fits = length-set (set (replicate (word_count e.shape) 0) 0 1) (place_of e.shape (key (e.graph.root % e.shape.rows))) (e.graph.root + 1) ∙ long;
     holds = holds_first;
+    passed = opening_passed e (core_by e.shape (first_words e) blocks (first_views e workers)) fit opens;
+    prevented = opening_prevented e (core_by e.shape (first_words e) blocks (first_views e workers)) fit opens;
     keeps = record {
       others = λ q. bares q ∙ sym (total_first (noted (λ x. q x && is_kept e.graph.root x)) (λ y. refl) ∙ none (q (record_of.Created (key_of e.graph.root))) (λ (b : Bool). cond b false true) (eqb_here e.graph.root) refl);
       replaced = λ q. sym (total_first (noted (λ x. q x && is_root_replaced e.graph.root x)) (λ y. refl) ∙ none (q (record_of.Created (key_of e.graph.root))) (λ (b : Bool). b && false) (eqb_here e.graph.root) refl);

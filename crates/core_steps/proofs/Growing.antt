@@ -1,16 +1,18 @@
 -- Parts of a table that grow one by one.
 use Rattle.std.proofs.Common.{◌≡◌, ℕ, zero, suc, ◌+◌, ◌<◌, ◌≤◌, Bool, false, List, [], ◌∷◌, ◌++◌, length, get_or, set, length-set, get_or-set_same, remove, take, arith, sym, ap, refl, ◌∙◌, subst, Option, Some}
 use Rattle.core_state.specs.Counts.{hit, bump, count}
-use Rattle.core_state.proofs.Cases.{bump_is}
+use Rattle.core_state.proofs.Base.Counting.{bump_is}
 use Rattle.core_state.specs.declared.block.BlockCells.{BlockCells}
 use Rattle.graph_model.specs.declared.record.Record.{Record}
 use Rattle.core_state.specs.Counts.{total_of}
 use Rattle.core_state.specs.Graph.{Setting}
+use Rattle.core_state.specs.Cover.{Passed}
 use Rattle.core_state.specs.Invariant.{Invariant}
+use Rattle.core_state.specs.Prevented.{Prevented}
 use Rattle.core_state.specs.declared.views.View.{View}
 use Rattle.std.proofs.lemmas.List.{take_all}
 use Rattle.core_steps.proofs.Changing.{all_count, any_store}
-use Rattle.core_steps.specs.Table.{Plain, Stored, stored, no_store, core_by, word_count, any_record, IsUnwritten, IsBare, IsAll, IsGathered, HasRoom, IsClosing, IsSound}
+use Rattle.core_steps.specs.Table.{Plain, Stored, stored, no_store, core_by, word_count, any_record, IsUnwritten, IsBare, IsAll, IsGathered, HasRoom, IsClosing, IsHoused, IsSound}
 
 pub unwritten_none : IsUnwritten []
 unwritten_none b = (refl, refl)
@@ -66,6 +68,8 @@ sound_gathered e p ss x s l many none all = record {
   root_is = s.root_is;
   fits = s.fits;
   holds = s.holds;
+  passed = s.passed;
+  prevented = s.prevented;
   keeps = record { others = λ q. gathered_all ss p.stores x l none all q ∙ s.keeps.others q; replaced = s.keeps.replaced };
   workers = length-set ss 0 x ∙ many ∙ s.workers;
   at_home = s.at_home;
@@ -76,7 +80,7 @@ sound_gathered e p ss x s l many none all = record {
 
 pub some_worker : (e : Setting) (p : Plain) → IsSound e p → 0 < length p.stores
 unfolding total_of
-some_worker e p s = let a = s.holds.keys.of_root in let b = s.holds.keys.created a.0 e.graph.root a.1 in let c = by p.views (Rattle.core_state.specs.Counts.noted (Rattle.core_state.specs.Counts.is_created e.graph.root)) b in let d = s.workers in omega (arith, c, d)
+some_worker e p s = let a = s.holds.keys.of_root in let b = s.holds.keys.created a.0 e.graph.root a.1 in let c = by p.views (Rattle.core_state.specs.Counts.noted (Rattle.core_state.specs.Tests.is_created e.graph.root)) b in let d = s.workers in omega (arith, c, d)
   where
     by : (vs : List View) (f : View → ℕ) → total_of vs f ≡ 1 → 0 < length vs
     by [] f e = absurd (omega (arith, e))
@@ -88,6 +92,10 @@ closing e p rs s all = record {
   setting = s.setting;
   fits = subst (λ h. length p.words ≡ word_count h) s.shape_is s.fits;
   holds = subst (λ h. Invariant e (core_by h p.words p.blocks p.views)) s.shape_is s.holds;
+  passed = subst (λ h. Passed e (core_by h p.words p.blocks p.views)) s.shape_is s.passed;
+  prevented = subst (λ h. Prevented e (core_by h p.words p.blocks p.views)) s.shape_is s.prevented;
+  at_home = s.at_home;
+  housed = subst (λ h. IsHoused e h p.blocks p.views) s.shape_is s.housed;
   others = λ q. all q ∙ s.keeps.others q;
   replaced = s.keeps.replaced;
 }

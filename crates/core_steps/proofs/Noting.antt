@@ -1,40 +1,47 @@
 -- What the stores keep where a step records one more, or nothing.
-use Rattle.std.proofs.Common.{◌≡◌, ◌≢◌, ℕ, zero, suc, ◌+◌, ◌<◌, ◌++◌, ◌&&◌, Bool, true, false, cond, eqb, ne_eqb, eq-eqb, eqb-true, List, [], ◌∷◌, length, get_or, set, length-set, arith, sym, ap, refl, ◌∙◌, Option, Some, None}
-use Rattle.std.proofs.lemmas.Bool.{eqb-false}
+use Rattle.std.proofs.Common.{◌≡◌, ℕ, ◌+◌, ◌<◌, ◌++◌, ◌&&◌, Bool, true, false, cond, eqb, List, [], ◌∷◌, length, get_or, set, arith, ap, refl, ◌∙◌, Option, Some, None}
 use Rattle.core_state.specs.Graph.{Setting}
-use Rattle.core_state.specs.Counts.{hit, count, key_named, noted, total_of}
+use Rattle.core_state.specs.Counts.{hit, bump, count, noted}
+use Rattle.core_state.specs.Tests.{key_named}
 use Rattle.core_state.specs.Views.{blank}
 use Rattle.core_state.specs.declared.views.View.{View}
 use Rattle.graph_model.specs.declared.record.Record.{Record}
-use Rattle.core_state.proofs.Cases.{bump_is}
-use Rattle.core_state.proofs.JobWords.{and_false}
-use Rattle.core_state.proofs.Sums.{total_set}
+use Rattle.core_state.proofs.Base.Counting.{bump_is}
+use Rattle.core_state.proofs.Credit.JobView.{and_false}
+use Rattle.core_state.proofs.Base.Sums.{total_set}
 use Rattle.core_steps.proofs.Changing.{elem_at}
-use Rattle.core_steps.specs.Table.{Plain, Stored, view_at, is_kept, is_replacing, is_root_replaced, stored, no_store, with_record, Keeps, IsSound}
+use Rattle.core_steps.proofs.Growing.{stored_set}
+use Rattle.core_steps.specs.Table.{Plain, Stored, view_at, as_list, kept_store, kept_list, is_kept, is_root_replaced, no_store, with_record, Keeps, IsSound}
 
 and_true : (b : Bool) → (b && true) ≡ b
 and_true true = refl
 and_true false = refl
 
--- the stores with what is recorded of a step of worker i
-unfoldable pub stores_with : ℕ → Option Record → List Stored → List Stored
-stores_with i None ss = ss
-stores_with i (Some x) ss = set ss i (with_record (get_or ss i no_store) x)
-
-pub many_with : (i : ℕ) (x : Option Record) (ss : List Stored) → length (stores_with i x ss) ≡ length ss
-unfolding stores_with
-many_with i None ss = refl
-many_with i (Some x) ss = length-set ss i (with_record (get_or ss i no_store) x)
-
 count_more : (q : Record → Bool) (xs : List Record) (x : Record) → count q (xs ++ x ∷ []) ≡ count q xs + hit (q x)
 count_more q [] x = let a = bump_is (q x) 0 in omega (arith, a)
 count_more q (y ∷ xs) x = let a = count_more q xs x in let b = bump_is (q y) (count q (xs ++ x ∷ [])) in let c = bump_is (q y) (count q xs) in omega (arith, a, b, c)
 
--- one store with one record more
-stored_more : (q : Record → Bool) (x : Record) (ss : List Stored) (j : ℕ) → j < length ss → stored q (set ss j (with_record (get_or ss j no_store) x)) ≡ stored q ss + hit (q x)
-stored_more q x [] j l = absurd (omega (arith, l))
-stored_more q x (y ∷ ys) zero l = let a = count_more q y.records x in omega (arith, a)
-stored_more q x (y ∷ ys) (suc j) l = let a = stored_more q x ys j (omega (arith, l)) in omega (arith, a)
+-- a store has one record more, where it is kept
+store_more : (root : ℕ) (q : Record → Bool) (y : Option Record) (s : Stored) → count q (kept_store root y s).records ≡ count q s.records + count (λ x. q x && is_kept root x) (as_list y)
+store_more root q None s = omega arith
+store_more root q (Some x) s = by (eqb root (key_named x)) refl
+  where
+    by : (b : Bool) → eqb root (key_named x) ≡ b → count q (cond b s (with_record s x)).records ≡ count q s.records + bump (q x && is_kept root x) 0
+    by true is = let g : (q x && is_kept root x) ≡ false = ap (λ (b : Bool). q x && cond b false true) is ∙ and_false (q x) in let c = bump_is (q x && is_kept root x) 0 in let h = ap hit g in omega (arith, c, h)
+    by false is = let g : (q x && is_kept root x) ≡ q x = ap (λ (b : Bool). q x && cond b false true) is ∙ and_true (q x) in let a = count_more q s.records x in let c = bump_is (q x && is_kept root x) 0 in let h = ap hit g in omega (arith, a, c, h)
+
+-- and so has the list of the root's replacements
+list_more : (root : ℕ) (q : Record → Bool) (y : Option Record) (xs : List Record) → count q (kept_list root y xs) ≡ count q xs + count (λ x. q x && is_root_replaced root x) (as_list y)
+list_more root q None xs = omega arith
+list_more root q (Some x) xs = by (is_root_replaced root x) refl
+  where
+    by : (b : Bool) → is_root_replaced root x ≡ b → count q (cond b (xs ++ x ∷ []) xs) ≡ count q xs + bump (q x && is_root_replaced root x) 0
+    by true is = let g : (q x && is_root_replaced root x) ≡ q x = ap (λ (b : Bool). q x && b) is ∙ and_true (q x) in let a = count_more q xs x in let c = bump_is (q x && is_root_replaced root x) 0 in let h = ap hit g in omega (arith, a, c, h)
+    by false is = let g : (q x && is_root_replaced root x) ≡ false = ap (λ (b : Bool). q x && b) is ∙ and_false (q x) in let c = bump_is (q x && is_root_replaced root x) 0 in let h = ap hit g in omega (arith, c, h)
+
+noted_more : (t : Record → Bool) (y : Option Record) (xs : List Record) → count t (as_list y ++ xs) ≡ count t (as_list y) + count t xs
+noted_more t None xs = omega arith
+noted_more t (Some x) xs = let a = bump_is (t x) (count t xs) in let b = bump_is (t x) 0 in omega (arith, a, b)
 
 module _ (e : Setting) (p : Plain) (i : ℕ) (low : i < length p.views) (s : IsSound e p) where
   -- a view with the same records
@@ -46,58 +53,13 @@ module _ (e : Setting) (p : Plain) (i : ℕ) (low : i < length p.views) (s : IsS
         let c : f w ≡ f (view_at p i) = ap (count (λ x. q x && is_root_replaced e.graph.root x)) recs in omega (arith, a, b, c);
   }
 
-  -- a view with one record more
-  module _ (x : Record) (w : View) (recs : w.records ≡ x ∷ (view_at p i).records) where
-    more_noted : (t : Record → Bool) → total_of (set p.views i w) (noted t) ≡ total_of p.views (noted t) + hit (t x)
-    more_noted t = let a = total_set p.views i (view_at p i) w (noted t) (elem_at p.views i blank low) in let b : count t w.records ≡ count t (x ∷ (view_at p i).records) = ap (count t) recs in
-        let c = bump_is (t x) (count t (view_at p i).records) in omega (arith, a, b, c)
-
-    -- another key's is kept
-    pub other_keeps : key_named x ≢ e.graph.root → Keeps e.graph.root (set p.views i w) (stores_with i (Some x) p.stores) p.root_replaced
-    unfolding stores_with
-    other_keeps ne = record {
-      others = λ q. let a = more_noted (λ y. q y && is_kept e.graph.root y) in let b = s.keeps.others q in let c = stored_more q x p.stores i (let many = s.workers in omega (arith, many, low)) in
-          let g : (q x && is_kept e.graph.root x) ≡ q x = ap (λ (b : Bool). q x && cond b false true) (ne_eqb e.graph.root (key_named x) (λ y. ne (sym y))) ∙ and_true (q x) in
-          let h = ap hit g in omega (arith, a, b, c, h);
-      replaced = λ q. let a = more_noted (λ y. q y && is_root_replaced e.graph.root y) in let b = s.keeps.replaced q in
-          let g : (q x && is_root_replaced e.graph.root x) ≡ false = ap (λ (b : Bool). q x && (b && is_replacing x)) (ne_eqb e.graph.root (key_named x) (λ y. ne (sym y))) ∙ and_false (q x) in
-          let h = ap hit g in omega (arith, a, b, h);
-    }
-
-    -- a replacement of the root is kept in the list of these
-    pub listed_keeps : key_named x ≡ e.graph.root → is_replacing x ≡ true → Keeps e.graph.root (set p.views i w) p.stores (p.root_replaced ++ x ∷ [])
-    listed_keeps is replaces = record {
-      others = λ q. let a = more_noted (λ y. q y && is_kept e.graph.root y) in let b = s.keeps.others q in
-          let g : (q x && is_kept e.graph.root x) ≡ false = ap (λ (b : Bool). q x && cond b false true) (eq-eqb e.graph.root (key_named x) (sym is)) ∙ and_false (q x) in
-          let h = ap hit g in omega (arith, a, b, h);
-      replaced = λ q. let a = more_noted (λ y. q y && is_root_replaced e.graph.root y) in let b = s.keeps.replaced q in let c = count_more q p.root_replaced x in
-          let g : (q x && is_root_replaced e.graph.root x) ≡ q x = ap (λ (b : Bool). q x && (b && is_replacing x)) (eq-eqb e.graph.root (key_named x) (sym is)) ∙ ap (λ (b : Bool). q x && b) replaces ∙ and_true (q x) in
-          let h = ap hit g in omega (arith, a, b, c, h);
-    }
-
-    -- one that is no Replaced
-    module _ (calm : is_replacing x ≡ false) where
-      not_replaced : (q : Record → Bool) → total_of (set p.views i w) (noted (λ y. q y && is_root_replaced e.graph.root y)) ≡ total_of p.views (noted (λ y. q y && is_root_replaced e.graph.root y))
-      not_replaced q = let a = more_noted (λ y. q y && is_root_replaced e.graph.root y) in
-          let g : (q x && is_root_replaced e.graph.root x) ≡ false = ap (λ (b : Bool). q x && (eqb e.graph.root (key_named x) && b)) calm ∙ ap (λ (b : Bool). q x && b) (and_false (eqb e.graph.root (key_named x))) ∙ and_false (q x) in
-          let h = ap hit g in omega (arith, a, h)
-
-      -- the root's is not kept
-      root_keeps : key_named x ≡ e.graph.root → Keeps e.graph.root (set p.views i w) p.stores p.root_replaced
-      root_keeps is = record {
-        others = λ q. let a = more_noted (λ y. q y && is_kept e.graph.root y) in let b = s.keeps.others q in
-            let g : (q x && is_kept e.graph.root x) ≡ false = ap (λ (b : Bool). q x && cond b false true) (eq-eqb e.graph.root (key_named x) (sym is)) ∙ and_false (q x) in
-            let h = ap hit g in omega (arith, a, b, h);
-        replaced = λ q. s.keeps.replaced q ∙ sym (not_replaced q);
-      }
-
-      pub noted_keeps : key_named x ≢ e.graph.root → Keeps e.graph.root (set p.views i w) (stores_with i (Some x) p.stores) p.root_replaced
-      noted_keeps ne = other_keeps ne
-
-      pub entry_keeps : Keeps e.graph.root (set p.views i w) (stores_with i (cond (eqb (key_named x) e.graph.root) None (Some x)) p.stores) p.root_replaced
-      unfolding stores_with
-      entry_keeps = by (eqb (key_named x) e.graph.root) refl
-        where
-          by : (b : Bool) → eqb (key_named x) e.graph.root ≡ b → Keeps e.graph.root (set p.views i w) (stores_with i (cond b None (Some x)) p.stores) p.root_replaced
-          by true is = root_keeps (eqb-true (key_named x) e.graph.root is)
-          by false is = other_keeps (eqb-false (key_named x) e.graph.root is)
+  -- a view with one record more, or none
+  pub entered_keeps : (y : Option Record) (w : View) → w.records ≡ as_list y ++ (view_at p i).records
+      → Keeps e.graph.root (set p.views i w) (set p.stores i (kept_store e.graph.root y (get_or p.stores i no_store))) (kept_list e.graph.root y p.root_replaced)
+  entered_keeps y w recs = record {
+    others = λ q. let t : Record → Bool = λ x. q x && is_kept e.graph.root x in let a = total_set p.views i (view_at p i) w (noted t) (elem_at p.views i blank low) in let b = s.keeps.others q in
+        let c = stored_set q p.stores i (kept_store e.graph.root y (get_or p.stores i no_store)) no_store (let many = s.workers in omega (arith, many, low)) in let d = store_more e.graph.root q y (get_or p.stores i no_store) in
+        let f = ap (count t) recs in let g = noted_more t y (view_at p i).records in omega (arith, a, b, c, d, f, g);
+    replaced = λ q. let t : Record → Bool = λ x. q x && is_root_replaced e.graph.root x in let a = total_set p.views i (view_at p i) w (noted t) (elem_at p.views i blank low) in let b = s.keeps.replaced q in
+        let d = list_more e.graph.root q y p.root_replaced in let f = ap (count t) recs in let g = noted_more t y (view_at p i).records in omega (arith, a, b, d, f, g);
+  }

@@ -1,37 +1,45 @@
--- A step with its record, if it has one.
-use Rattle.std.proofs.Common.{◌≡◌, ℕ, zero, suc, ◌+◌, ◌-◌, ◌<◌, ◌≤◌, min, List, [], ◌∷◌, get_or, set, arith, sym, refl, subst, Option, Some, None}
+-- The room for records, and what is kept where only that changes.
+use Rattle.std.proofs.Common.{◌≡◌, ℕ, ◌+◌, ◌-◌, ◌<◌, ◌≤◌, min, Bool, true, false, cond, eqb, List, [], ◌∷◌, zero, suc, length, length-set, get_or, set, get_or-set_same, arith, sym, ap, refl, ◌∙◌, subst, Option, Some, None}
 use Rattle.core_state.specs.Graph.{Setting}
 use Rattle.graph_model.specs.declared.record.Record.{Record}
-use Rattle.std.proofs.Math.Nat.{min_comm, min-eq_left, min-eq_right, min-le_left, min-le_right}
+use Rattle.std.proofs.Math.Nat.{min-eq_left, min-eq_right, min-le_left, min-le_right}
 use mathlib.Core.Logic.{dite}
 use native.Mathlib.Decide.{dec_lt}
-use Rattle.core_steps.specs.Table.{recorded, replaced_by, spare_of, Plain, Stored, no_store, with_record, entered, IsSound}
+use Rattle.core_state.specs.Counts.{count}
+use Rattle.core_state.specs.Tests.{key_named}
+use Rattle.core_steps.specs.Table.{spare_of, stored, Plain, Stored, no_store, with_record, as_list, kept_store, kept_room, is_root_replaced, entered, IsSound}
 
-pub same_views : (i : ℕ) (x : Option Record) (p : Plain) → (entered i x p).views ≡ p.views
-same_views i None p = refl
-same_views i (Some x) p = refl
+pub one_at_most : (y : Option Record) → length (as_list y) ≤ 1
+one_at_most None = omega arith
+one_at_most (Some x) = omega arith
 
-less_room : (ss : List Stored) (i : ℕ) (x : Record) → (get_or ss i no_store).room ≤ (get_or (set ss i (with_record (get_or ss i no_store) x)) i no_store).room + 1
-less_room [] i x = omega arith
-less_room (s ∷ ss) zero x = omega arith
-less_room (s ∷ ss) (suc i) x = less_room ss i x
+-- what is kept of a record takes no more room than one
+store_room_falls : (root : ℕ) (y : Option Record) (s : Stored) → (s.room ≤ (kept_store root y s).room + length (as_list y)) × ((kept_store root y s).room ≤ s.room)
+store_room_falls root None s = (omega arith, omega arith)
+store_room_falls root (Some x) s = by (eqb root (key_named x))
+  where
+    by : (b : Bool) → (s.room ≤ (cond b s (with_record s x)).room + 1) × ((cond b s (with_record s x)).room ≤ s.room)
+    by true = (omega arith, omega arith)
+    by false = (omega arith, omega arith)
 
-min_falls : (a b c : ℕ) → a ≤ b + 1 → min a c ≤ min b c + 1
-min_falls a b c l = dite (dec_lt b c)
-    (λ m. let x : min b c ≡ b = min-eq_left (omega (arith, m)) in let z = min-le_left a c in omega (arith, x, z, l))
-    (λ m. let x : min b c ≡ c = min-eq_right (omega (arith, m)) in let z = min-le_right a c in omega (arith, x, z))
+list_room_falls : (root : ℕ) (y : Option Record) (n : ℕ) → (n ≤ kept_room root y n + length (as_list y)) × (kept_room root y n ≤ n)
+list_room_falls root None n = (omega arith, omega arith)
+list_room_falls root (Some x) n = by (is_root_replaced root x)
+  where
+    by : (b : Bool) → (n ≤ cond b (n - 1) n + 1) × (cond b (n - 1) n ≤ n)
+    by true = (omega arith, omega arith)
+    by false = (omega arith, omega arith)
 
--- a record takes no more than its own room
-pub one_noted : (i : ℕ) (x : Record) (p : Plain) → spare_of p i ≤ spare_of (recorded i x p) i + 1
-one_noted i x p = min_falls (get_or p.stores i no_store).room (get_or (set p.stores i (with_record (get_or p.stores i no_store) x)) i no_store).room p.replaced_room (less_room p.stores i x)
+min_falls : (a b c d n : ℕ) → a ≤ b + n → c ≤ d + n → min a c ≤ min b d + n
+min_falls a b c d n l m = dite (dec_lt b d)
+    (λ o. let x : min b d ≡ b = min-eq_left (omega (arith, o)) in let z = min-le_left a c in omega (arith, x, z, l))
+    (λ o. let x : min b d ≡ d = min-eq_right (omega (arith, o)) in let z = min-le_right a c in omega (arith, x, z, m))
 
-pub one_less : (i : ℕ) (x : Option Record) (p : Plain) → spare_of p i ≤ spare_of (entered i x p) i + 1
-one_less i None p = omega arith
-one_less i (Some x) p = one_noted i x p
-
-pub one_replaced : (i : ℕ) (x : Record) (p : Plain) → spare_of p i ≤ spare_of (replaced_by x p) i + 1
-one_replaced i x p = let a = min_falls p.replaced_room (p.replaced_room - 1) (get_or p.stores i no_store).room (omega arith) in
-    let b = min_comm (get_or p.stores i no_store).room p.replaced_room in let c = min_comm (get_or p.stores i no_store).room (p.replaced_room - 1) in omega (arith, a, b, c)
+-- what is entered takes as much room as there are records of it at most
+pub entered_room : (root i : ℕ) (y : Option Record) (p : Plain) → i < length p.stores → spare_of p i ≤ spare_of (entered root i y p) i + length (as_list y)
+entered_room root i y p low = let s : Stored = get_or p.stores i no_store in let t : Stored = kept_store root y s in
+    let is : (get_or (set p.stores i t) i no_store).room ≡ t.room = ap (λ (x : Stored). x.room) (get_or-set_same p.stores i t no_store low) in let a = (store_room_falls root y s).0 in
+    min_falls s.room (get_or (set p.stores i t) i no_store).room p.replaced_room (kept_room root y p.replaced_room) (length (as_list y)) (omega (arith, a, is)) (list_room_falls root y p.replaced_room).0
 
 -- who has room for any record has it in the own store, and in the list of the root's replacements
 pub store_room : (p : Plain) (i : ℕ) → 0 < spare_of p i → 0 < (get_or p.stores i no_store).room
@@ -59,8 +67,33 @@ sound_roomed e p rs n same s = subst (λ xs. IsSound e (record p { root_replaced
   root_is = s.root_is;
   fits = s.fits;
   holds = s.holds;
+  passed = s.passed;
+  prevented = s.prevented;
   keeps = s.keeps;
   workers = s.workers;
+  at_home = s.at_home;
+  housed = s.housed;
+  root_last = s.root_last;
+  room_is = s.room_is;
+}
+
+stored_kept : (q : Record → Bool) (x : Stored) (ss : List Stored) (j : ℕ) → x.records ≡ (get_or ss j no_store).records → stored q (set ss j x) ≡ stored q ss
+stored_kept q x [] j same = refl
+stored_kept q x (y ∷ ys) zero same = let a = ap (count q) same in omega (arith, a)
+stored_kept q x (y ∷ ys) (suc j) same = let a = stored_kept q x ys j same in omega (arith, a)
+
+-- more room
+pub sound_reserved : (e : Setting) (p : Plain) (i : ℕ) (x : Stored) → IsSound e p → x.records ≡ (get_or p.stores i no_store).records → IsSound e (record p { stores = set p.stores i x })
+sound_reserved e p i x s same = record {
+  setting = s.setting;
+  shape_is = s.shape_is;
+  root_is = s.root_is;
+  fits = s.fits;
+  holds = s.holds;
+  passed = s.passed;
+  prevented = s.prevented;
+  keeps = record { others = λ q. stored_kept q x p.stores i same ∙ s.keeps.others q; replaced = s.keeps.replaced };
+  workers = length-set p.stores i x ∙ s.workers;
   at_home = s.at_home;
   housed = s.housed;
   root_last = s.root_last;

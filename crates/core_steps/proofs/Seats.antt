@@ -1,54 +1,31 @@
--- What a seat's caller learns of a claim or a look.
-use Rattle.std.proofs.Common.{◌≡◌, ◌≢◌, ℕ, ◌+◌, ◌<◌, ◌^◌, List, length, get_or, set, length-set, get_or-set_same, arith, sym, ap, refl, ◌∙◌, subst, Option, Some, None}
+-- What a seat's caller learns of a step.
+use Rattle.std.proofs.Common.{◌≡◌, ℕ, ◌+◌, ◌<◌, ◌≤◌, ◌^◌, List, length, get_or, set, arith, sym, ap, ◌∙◌, subst, Option, Some, None}
 use mathlib.Core.Logic.{dite}
 use native.Mathlib.Decide.{ℕ_discrete}
 use Rattle.std.proofs.lemmas.List.{set-set}
 use Rattle.core_state.specs.Graph.{Setting, Reached}
 use Rattle.core_state.specs.Graph.Reached.{through}
-use Rattle.core_state.specs.Words.{key, place_of}
-use Rattle.core_state.specs.Kinds.{after, Can}
-use Rattle.core_state.specs.Calls.{CanClaim, CanLook}
+use Rattle.core_state.specs.Words.{Shape, place_of}
+use Rattle.core_state.specs.Events.{Event, at, after, Can}
+use Rattle.core_state.specs.Sure.{IsSure, IsFound}
+use Rattle.core_state.specs.declared.views.View.{View}
+use Rattle.core_state.proofs.Own.Found.{found_of}
+use Rattle.core_state.proofs.Own.Sure.{sure_of}
+use Rattle.core_state.proofs.Base.Words.{read_at}
+use Rattle.core_state.specs.Guards.{CanClaim}
 use Rattle.core_state.specs.Views.{blank}
-use Rattle.core_steps.specs.Seat.{Explores, key_event}
-use Rattle.core_steps.specs.Table.{Plain, IsSound, KeyStepped, view_at, stepped_by, recorded}
-use Rattle.core_steps.specs.declared.kinds.Kind.TheVariants.{Claim, Look}
-use Rattle.core_state.specs.Counts.{items, is_at, is_exploring}
-use Rattle.core_state.specs.Views.{key_of}
-use Rattle.graph_model.specs.declared.record.Record.TheVariants as record_of
-use Rattle.core_state.proofs.Claiming.{fewer_items}
-use Rattle.core_state.proofs.Made.{exploring_at}
-use Rattle.core_state.proofs.Sums.{total_within}
+use Rattle.core_steps.specs.Seat.{Explores, IsStep, key_event, last_after}
+use Rattle.core_steps.specs.Table.{Plain, IsSound, IsTableStep, core_by, view_at}
+use Rattle.core_steps.specs.declared.kinds.Touched.{Touched}
+use Rattle.core_state.specs.Counts.{items, total_of}
+use Rattle.core_state.specs.Tests.{is_at, is_exploring}
+use Rattle.core_state.proofs.Row.View.{fewer_items}
+use Rattle.core_state.proofs.Row.Made.{exploring_at}
+use Rattle.core_state.proofs.Base.Sums.{total_within}
 use Rattle.core_steps.proofs.Changing.{elem_at}
-use Rattle.core_steps.proofs.Sounding.{sound_made, sound_found, sound_seen, sound_unseen}
+use Rattle.core_steps.proofs.Inside.{spot_inside}
 
 module _ (e : Setting) (p : Plain) (i : ℕ) (low : i < length p.views) (s : IsSound e p) where
-  key_step : (row : ℕ) (claimed : Option ℕ) (n : ℕ) (q : Plain) → Can e (view_at p i) (key_event row claimed) → n ≡ get_or p.words (place_of p.shape (key row)) 0 → q.views ≡ set p.views i (after e (key_event row claimed) n (view_at p i)) → IsSound e q → KeyStepped e i row claimed n p q
-  key_step row claimed n q can found views sound = record {
-    can = can;
-    found_is = found;
-    view_is = ap (λ vs. get_or vs i blank) views ∙ get_or-set_same p.views i (after e (key_event row claimed) n (view_at p i)) blank low;
-    others_are = ap (λ vs. set vs i blank) views ∙ set-set p.views i (after e (key_event row claimed) n (view_at p i)) blank;
-    workers_are = ap length views ∙ length-set p.views i (after e (key_event row claimed) n (view_at p i));
-    low = low;
-    before = s;
-    afterwards = sound;
-  }
-
-  module _ (r k : ℕ) (can : CanClaim e (view_at p i) r k) where
-    pub made_step : get_or p.words (place_of p.shape (key r)) 0 ≡ 0 → KeyStepped e i r (Some k) 0 p (recorded i (record_of.Created (key_of k)) (stepped_by e p i (Claim r k) (place_of p.shape (key r)) 0 (k + 1)))
-    made_step empty = key_step r (Some k) 0 (recorded i (record_of.Created (key_of k)) (stepped_by e p i (Claim r k) (place_of p.shape (key r)) 0 (k + 1))) can (sym empty) refl (sound_made e p i low s r k can empty)
-
-    pub met_step : (n : ℕ) → get_or p.words (place_of p.shape (key r)) 0 ≡ n → n ≢ 0 → KeyStepped e i r (Some k) n p (stepped_by e p i (Claim r k) (place_of p.shape (key r)) n n)
-    met_step n is full = key_step r (Some k) n (stepped_by e p i (Claim r k) (place_of p.shape (key r)) n n) can (sym is) refl (sound_found e p i low s r k can n is full)
-
-  pub sound_look : (r n : ℕ) → CanLook e (view_at p i) r → get_or p.words (place_of p.shape (key r)) 0 ≡ n → IsSound e (stepped_by e p i (Look r) (place_of p.shape (key r)) n n)
-  sound_look r n can is = dite (ℕ_discrete n 0)
-      (λ z. subst (λ m. IsSound e (stepped_by e p i (Look r) (place_of p.shape (key r)) m m)) (sym z) (sound_unseen e p i low s r can (is ∙ z)))
-      (λ full. sound_seen e p i low s r can n is full)
-
-  pub seen_step : (r n : ℕ) → CanLook e (view_at p i) r → get_or p.words (place_of p.shape (key r)) 0 ≡ n → KeyStepped e i r None n p (stepped_by e p i (Look r) (place_of p.shape (key r)) n n)
-  seen_step r n can is = key_step r None n (stepped_by e p i (Look r) (place_of p.shape (key r)) n n) can (sym is) refl (sound_look r n can is)
-
   -- a key at which a view explores can be reached
   pub explored_reached : (k : ℕ) → Explores e (view_at p i) k → Reached e.graph k
   explored_reached k x = let row = s.holds.keys.of_item x.explorer (let a = total_within p.views i (view_at p i) (items (is_at x.explorer)) (elem_at p.views i blank low) in
@@ -57,6 +34,51 @@ module _ (e : Setting) (p : Plain) (i : ℕ) (low : i < length p.views) (s : IsS
 
   pub claimed_small : (r k : ℕ) → CanClaim e (view_at p i) r k → k + 1 < 2 ^ 64
   claimed_small r k can = let a = s.setting.small_keys k (explored_reached k (record { explorer = can.explorer; life = can.life; place = can.place; exploring = can.exploring; is_place = can.is_place; names = can.names })) in omega (arith, a)
+
+-- what every view is, of a worker
+pub sure_at : (e : Setting) (p : Plain) (i : ℕ) → i < length p.views → IsSound e p → IsSure e (view_at p i)
+sure_at e p i low s = sure_of e (core_by p.shape p.words p.blocks p.views) s.holds (view_at p i) (λ f. total_within p.views i (view_at p i) f (elem_at p.views i blank low))
+
+-- the core's word on which a worker steps is that of the list
+pub core_word : (e : Setting) (p : Plain) (i : ℕ) → i < length p.views → IsSound e p → (x : Event) → Can e (view_at p i) x → (core_by p.shape p.words p.blocks p.views).word (at x) ≡ get_or p.words (place_of e.shape (at x)) 0
+core_word e p i low s x can = read_at p.shape p.words (at x) (spot_inside e p i low s x can) ∙ ap (λ (h : Shape). get_or p.words (place_of h (at x)) 0) s.shape_is
+
+-- a worker's view is one of the table's
+pub seat_within : (p : Plain) (i : ℕ) → i < length p.views → (f : View → ℕ) → f (view_at p i) ≤ total_of p.views f
+seat_within p i low f = total_within p.views i (view_at p i) f (elem_at p.views i blank low)
+
+-- the core's word held the number that a worker found
+pub found_word : (e : Setting) (i : ℕ) (x : Event) (t : Touched) (p q : Plain) → IsTableStep e i x t p q → (core_by p.shape p.words p.blocks p.views).word (at x) ≡ t.found
+found_word e i x t p q h = core_word e p i h.low h.before x h.can ∙ sym h.words.found_is
+
+-- what a worker knew of the word is true of the number that it found
+pub found_at : (e : Setting) (i : ℕ) (x : Event) (t : Touched) (p q : Plain) → IsTableStep e i x t p q → IsFound e (view_at p i) (at x) t.found
+found_at e i x t p q h = subst (IsFound e (view_at p i) (at x)) (found_word e i x t p q h)
+    (found_of e h.before.setting (core_by p.shape p.words p.blocks p.views) h.before.holds (view_at p i) (λ f. total_within p.views i (view_at p i) f (elem_at p.views i blank h.low)) (at x))
+
+-- a step of a worker is one of its seat
+pub seat_step : {S : Type 0} (setting : S → Setting) (view : S → View) (made : S → ℕ) (last shown : S → ℕ × ℕ) (happened : S → Event → ℕ → S → Type 0) (lender : S → List ℕ) (others : S → List View) (x : Event) (s t : S) (i : ℕ) (word : Touched) (p q : Plain)
+    → IsTableStep (setting s) i x word p q → setting t ≡ setting s → lender t ≡ lender s → view s ≡ view_at p i → view t ≡ view_at q i → others s ≡ set p.views i blank → others t ≡ set q.views i blank
+    → shown t ≡ (word.at, word.found) → made t ≡ made s + 1 → last t ≡ last_after x word.found (last s) → happened s x word.found t → IsStep setting view made last shown happened lender others x s t
+seat_step setting view made last shown happened lender others x s t i word p q h same_setting same_lender was now others_was others_now shows one_more last_is stepped = record {
+  word = ap (λ (o : ℕ × ℕ). o.0) shows ∙ h.at_is;
+  view_is = now ∙ h.view_is ∙ (λ j. after (setting s) x (sym shows j).1 (sym was j));
+  one_made = one_more;
+  last_is = last_is ∙ ap (λ (o : ℕ × ℕ). last_after x o.1 (last s)) (sym shows);
+  stepped = subst (λ (o : ℕ × ℕ). happened s x o.1 t) (sym shows) stepped;
+  found = subst (λ (o : ℕ × ℕ). IsFound (setting s) (view s) (at x) o.1) (sym shows) (subst (λ (u : View). IsFound (setting s) u (at x) word.found) (sym was) (found_at (setting s) i x word p q h));
+  table = record {
+    same_setting = same_setting;
+    same_lender = same_lender;
+    same_others = others_now ∙ h.others_are ∙ sym others_was;
+    sure = subst (λ (o : Setting). IsSure o (view t)) (sym same_setting) (subst (λ (u : View). IsSure (setting s) u) (sym now) (sure_at (setting s) q i (let a = h.workers_are in let b = h.low in omega (arith, a, b)) h.afterwards));
+  };
+}
+
+-- a claim and a look are noted as such
+pub key_last : (row : ℕ) (claimed : Option ℕ) (n : ℕ) (now before : ℕ × ℕ) → now ≡ (row, n) → now ≡ last_after (key_event row claimed) n before
+key_last row None n now before is = is
+key_last row (Some k) n now before is = is
 
 -- a worker's view is overwritten
 pub set_twice : {A : Type 0} (l : List A) (i : ℕ) (a b : A) → set (set l i a) i b ≡ set l i b

@@ -3,16 +3,16 @@ use Rattle.std.proofs.Common.{◌≡◌, ℕ, Bool, true, eqb, ap, sym, ◌∙�
 use Rattle.std.proofs.lemmas.Bool.{eqb-true}
 use mathlib.Core.Option.{some}
 use Rattle.core_state.specs.Graph.{Setting}
-use Rattle.core_state.specs.Calls.{AtWork}
-use Rattle.core_state.specs.Counts.{carries, job_of}
+use Rattle.core_state.specs.Guards.{AtWork}
+use Rattle.core_state.specs.Tests.{carries, job_of}
 use Rattle.core_state.specs.Views.{strike_next, top_items}
 use Rattle.core_state.specs.declared.job.Job.{Job}
 use Rattle.core_state.specs.declared.job.Job.TheVariants.{Explore, Compute}
 use Rattle.core_state.specs.declared.views.Item.{Item}
 use Rattle.core_state.specs.declared.views.Item.TheVariants as item
 use Rattle.core_state.specs.declared.views.View.{View}
-use Rattle.core_state.proofs.Made.{both}
-use Rattle.core_state.proofs.Striking.{NextStrike, next_strike_is}
+use Rattle.core_state.proofs.Row.Made.{both}
+use Rattle.core_state.proofs.Strike.Next.{NextStrike, next_strike_is}
 use Rattle.core_steps.specs.Serving.{life_at, first_life, first_waits, work_life, work_waits}
 use Rattle.graph_model.specs.declared.record.Cause.{Cause}
 

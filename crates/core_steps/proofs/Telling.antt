@@ -6,11 +6,12 @@ use native.Mathlib.Nat.{div-add-mod', add-mul}
 use Rattle.std.proofs.lemmas.Nat.{mod_below, mod-mul-add}
 use Rattle.core_state.specs.Graph.{Setting}
 use Rattle.core_state.specs.Words.{key, place_of}
-use Rattle.core_state.specs.Counts.{count, items, is_exploring, notifies, suspects_block, is_row, knows_row, word_in}
+use Rattle.core_state.specs.Counts.{count, items, knows_row, word_in}
+use Rattle.core_state.specs.Tests.{is_exploring, notifies, suspects_block, is_row}
 use Rattle.core_state.specs.Rows.{HasKey, HasRow}
-use Rattle.core_state.specs.Kinds.{after}
-use Rattle.core_state.specs.Calls.{CanClaim}
-use Rattle.core_state.specs.Events.{claim_of, claim_left, after_claim, after_look, skipped_items, is_other, others_before, distance}
+use Rattle.core_state.specs.Events.{after, at}
+use Rattle.core_state.specs.Guards.{CanClaim}
+use Rattle.core_state.specs.Effects.{claim_of, claim_left, after_claim, after_look, skipped_items, is_other, others_before, distance}
 use Rattle.core_state.specs.Views.{settle, blank, change_top, key_of}
 use Rattle.core_state.specs.declared.answers.Claim.TheVariants as claim
 use Rattle.core_state.specs.declared.job.Job.{Job}
@@ -19,16 +20,16 @@ use Rattle.core_state.specs.declared.views.Item.{Item}
 use Rattle.core_state.specs.declared.views.Item.TheVariants as item
 use Rattle.core_state.specs.declared.views.Known.TheVariants as known
 use Rattle.core_state.specs.declared.views.View.{View}
-use Rattle.core_state.proofs.Cases.{eqb_here}
-use Rattle.core_state.proofs.Claiming.{word_known}
-use Rattle.core_state.proofs.JobWords.{and_false}
-use Rattle.core_state.proofs.Made.{push_none}
-use Rattle.core_state.proofs.Paths.{reaches, distance_below, at_distance}
-use Rattle.core_state.proofs.Settled.{fails}
-use Rattle.core_state.proofs.Settling.{settled_same}
-use Rattle.core_state.proofs.Skips.{tops_same}
-use Rattle.core_state.proofs.Spots.{read_at}
-use Rattle.core_state.proofs.Sums.{total_within}
+use Rattle.core_state.proofs.Base.Counting.{eqb_here}
+use Rattle.core_state.proofs.Row.View.{word_known}
+use Rattle.core_state.proofs.Credit.JobView.{and_false}
+use Rattle.core_state.proofs.Row.Made.{push_none}
+use Rattle.core_state.proofs.Base.Paths.{reaches, distance_below, at_distance}
+use Rattle.core_state.proofs.Settle.Keeps.{fails}
+use Rattle.core_state.proofs.Settle.View.{settled_same}
+use Rattle.core_state.proofs.Row.Look.{tops_same}
+use Rattle.core_state.proofs.Base.Words.{read_at}
+use Rattle.core_state.proofs.Base.Sums.{total_within}
 use Rattle.key_table.specs.Path.{path_row, HasPassed, IsNext}
 use Rattle.key_table.specs.Rules.{HasRules, ClaimTells, SeenTells, claimed_key, Learns}
 use Rattle.key_table.specs.declared.words.Claim.{Claim}
@@ -37,7 +38,8 @@ use Rattle.key_table.specs.declared.words.Seen.{Seen}
 use Rattle.key_table.specs.declared.words.Seen.TheVariants.{Empty, Holds}
 use Rattle.core_steps.specs.Seat.{Explores, Awaits, known_of, key_in, key_event}
 use Rattle.core_steps.specs.Seat.Awaits.{by_port, by_block}
-use Rattle.core_steps.specs.Table.{Plain, IsSound, KeyStepped, view_at, core_by}
+use Rattle.core_steps.specs.Table.{Plain, IsSound, IsTableStep, view_at, core_by}
+use Rattle.core_steps.specs.declared.kinds.Touched.{Touched}
 use Rattle.core_steps.proofs.Changing.{elem_at}
 use Rattle.core_steps.proofs.Seats.{explored_reached}
 
@@ -90,7 +92,7 @@ module _ (e : Setting) (p : Plain) (i : ℕ) (low : i < length p.views) (s : IsS
   stays_of r k is = number_at r k (key_known r k is)
 
   awaited : (k : ℕ) → Awaits e (view_at p i) k → HasRow e (core_by p.shape p.words p.blocks p.views) k
-  awaited k (by_port a q z to) = subst (HasRow e (core_by p.shape p.words p.blocks p.views)) to (s.holds.keys.of_notify a q (let x = total_within p.views i (view_at p i) (items (notifies a q)) (elem_at p.views i blank low) in omega (arith, x, z)))
+  awaited k (by_port a q z to) = subst (HasRow e (core_by p.shape p.words p.blocks p.views)) to ((s.holds.keys.of_notify a q (let x = total_within p.views i (view_at p i) (items (notifies a q)) (elem_at p.views i blank low) in omega (arith, x, z))).1)
   awaited k (by_block b u z to) = subst (HasRow e (core_by p.shape p.words p.blocks p.views)) to (s.holds.keys.of_cause b u (let x = total_within p.views i (view_at p i) (items (suspects_block b u)) (elem_at p.views i blank low) in omega (arith, x, z)))
 
   pub rules_of : HasRules e.shape.rows e.keys (Explores e (view_at p i)) (Awaits e (view_at p i)) (known_of (view_at p i))
@@ -216,9 +218,17 @@ module _ (e : Setting) (v : View) where
   left_full None row n full = ap (λ (b : Bool). cond b (word_in row v.known) n) (ne_eqb n 0 full)
   left_full (Some k) row n full = ap (λ (b : Bool). cond b (k + 1) n) (ne_eqb n 0 full)
 
-module _ (e : Setting) (i row : ℕ) (claimed : Option ℕ) (n : ℕ) (p q : Plain) (x : KeyStepped e i row claimed n p q) where
-  effect : Effect (view_at p i) (view_at q i) row (left_of e (view_at p i) claimed row n)
-  effect = subst (λ w. Effect (view_at p i) w row (left_of e (view_at p i) claimed row n)) (sym x.view_is) (any_effect e (view_at p i) row claimed n)
+-- a claim and a look are on the row's key word
+key_spot : (row : ℕ) (claimed : Option ℕ) → at (key_event row claimed) ≡ key row
+key_spot row None = refl
+key_spot row (Some k) = refl
+
+module _ (e : Setting) (i row : ℕ) (claimed : Option ℕ) (word : Touched) (p q : Plain) (x : IsTableStep e i (key_event row claimed) word p q) where
+  key_found : word.found ≡ get_or p.words (place_of p.shape (key row)) 0
+  key_found = x.words.found_is ∙ (λ j. get_or p.words (place_of (sym x.before.shape_is j) (key_spot row claimed j)) 0)
+
+  effect : Effect (view_at p i) (view_at q i) row (left_of e (view_at p i) claimed row word.found)
+  effect = subst (λ w. Effect (view_at p i) w row (left_of e (view_at p i) claimed row word.found)) (sym x.view_is) (any_effect e (view_at p i) row claimed word.found)
 
   pub may_stays : (k : ℕ) → Explores e (view_at p i) k → Explores e (view_at q i) k
   may_stays k y = record { explorer = y.explorer; life = y.life; place = y.place; exploring = let a = effect.its (is_exploring y.explorer y.life y.place) (exploring_lasts y.explorer y.life y.place) in let b = y.exploring in omega (arith, a, b); is_place = y.is_place; names = y.names }
@@ -234,33 +244,33 @@ module _ (e : Setting) (i row : ℕ) (claimed : Option ℕ) (n : ℕ) (p q : Pla
   stands_back k (by_port a b z to) = by_port a b (let y = effect.its (notifies a b) (notifying_lasts a b) in omega (arith, y, z)) to
   stands_back k (by_block a b z to) = by_block a b (let y = effect.its (suspects_block a b) (blaming_lasts a b) in omega (arith, y, z)) to
 
-  pub stays : (k : ℕ) → known_of (view_at p i) row ≡ Some k → n ≡ k + 1
-  stays k is = x.found_is ∙ stays_of e p i x.low x.before row k is
+  pub stays : (k : ℕ) → known_of (view_at p i) row ≡ Some k → word.found ≡ k + 1
+  stays k is = key_found ∙ stays_of e p i x.low x.before row k is
 
   pub known_stays : (r k : ℕ) → known_of (view_at p i) r ≡ Some k → known_of (view_at q i) r ≡ Some k
   known_stays r k is = dite (ℕ_discrete r row)
-      (λ z. let one : n ≡ k + 1 = stays k (subst (λ y. known_of (view_at p i) y ≡ Some k) z is) in
-      ap (λ y. known_of (view_at q i) y) z ∙ key_in-suc (word_in row (view_at q i).known) k (effect.here ∙ left_full e (view_at p i) claimed row n (λ y. omega (arith, y, one)) ∙ one))
+      (λ z. let one : word.found ≡ k + 1 = stays k (subst (λ y. known_of (view_at p i) y ≡ Some k) z is) in
+      ap (λ y. known_of (view_at q i) y) z ∙ key_in-suc (word_in row (view_at q i).known) k (effect.here ∙ left_full e (view_at p i) claimed row word.found (λ y. omega (arith, y, one)) ∙ one))
       (λ ne. ap key_in (effect.knows r ne) ∙ is)
 
   pub rules_after : HasRules e.shape.rows e.keys (Explores e (view_at q i)) (Awaits e (view_at q i)) (known_of (view_at q i))
   rules_after = rules_of e q i (let a = x.workers_are in let b = x.low in omega (arith, a, b)) x.afterwards
 
-  known_now : (k : ℕ) → left_of e (view_at p i) claimed row n ≡ k + 1 → known_of (view_at q i) row ≡ Some k
+  known_now : (k : ℕ) → left_of e (view_at p i) claimed row word.found ≡ k + 1 → known_of (view_at q i) row ≡ Some k
   known_now k is = key_in-suc (word_in row (view_at q i).known) k (effect.here ∙ is)
 
-  full_now : (k : ℕ) → n ≡ k + 1 → known_of (view_at q i) row ≡ Some k
-  full_now k is = known_now k (left_full e (view_at p i) claimed row n (λ z. omega (arith, z, is)) ∙ is)
+  full_now : (k : ℕ) → word.found ≡ k + 1 → known_of (view_at q i) row ≡ Some k
+  full_now k is = known_now k (left_full e (view_at p i) claimed row word.found (λ z. omega (arith, z, is)) ∙ is)
 
-  pub learnt : (a : Seen) → SeenTells a n → Learns a (known_of (view_at q i) row)
+  pub learnt : (a : Seen) → SeenTells a word.found → Learns a (known_of (view_at q i) row)
   learnt Empty t = tt
   learnt (Holds k) t = full_now k.0 t
 
-  pub claimed_now : (k : ℕ) (a : Claim) → claimed ≡ Some k → ClaimTells a k n → known_of (view_at q i) row ≡ Some (claimed_key a k)
+  pub claimed_now : (k : ℕ) (a : Claim) → claimed ≡ Some k → ClaimTells a k word.found → known_of (view_at q i) row ≡ Some (claimed_key a k)
   unfolding left_of
-  claimed_now k Made of t = known_now k (ap (λ o. left_of e (view_at p i) o row n) of ∙ ap (claim_left k) t)
+  claimed_now k Made of t = known_now k (ap (λ o. left_of e (view_at p i) o row word.found) of ∙ ap (claim_left k) t)
   claimed_now k Found of t = full_now k t
   claimed_now k (Other o) of t = full_now o.0 t.0
 
-  pub standing : (k : ℕ) → Awaits e (view_at p i) k → IsNext (known_of (view_at p i)) k e.shape.rows row → n ≢ 0
-  standing k a next z = standing_of e p i x.low x.before k row a next (sym x.found_is ∙ z)
+  pub standing : (k : ℕ) → Awaits e (view_at p i) k → IsNext (known_of (view_at p i)) k e.shape.rows row → word.found ≢ 0
+  standing k a next z = standing_of e p i x.low x.before k row a next (sym key_found ∙ z)

@@ -1,11 +1,12 @@
 -- What a walk of claims along a key's path leaves of the view of its seat: only the last claim can have made the row.
-use Rattle.std.proofs.Common.{◌≡◌, ◌≢◌, ℕ, zero, suc, ◌+◌, ◌-◌, ◌<◌, ◌≤◌, Bool, true, false, cond, eqb, ne_eqb, List, [], ◌∷◌, arith, sym, ap, refl, ◌∙◌, subst, Option, Some}
+use Rattle.std.proofs.Common.{◌≡◌, ◌≢◌, ℕ, zero, suc, ◌+◌, ◌-◌, ◌<◌, ◌≤◌, Bool, true, false, cond, eqb, ne_eqb, List, [], ◌∷◌, arith, sym, ap, refl, ◌∙◌, subst, Option, Some, None}
 use Rattle.core_state.specs.Graph.{Setting}
-use Rattle.core_state.specs.Counts.{word_in, count, is_owe, in_stacks}
-use Rattle.core_state.specs.Calls.{AtWork, CanBuy}
-use Rattle.core_state.specs.Events.{after_claim}
-use Rattle.core_state.specs.Kinds.{after}
-use Rattle.core_state.specs.Kinds.Event.{claim}
+use Rattle.core_state.specs.Counts.{word_in, count, in_stacks}
+use Rattle.core_state.specs.Tests.{is_owe}
+use Rattle.core_state.specs.Guards.{AtWork, CanBuy}
+use Rattle.core_state.specs.Effects.{after_claim}
+use Rattle.core_state.specs.Events.{after}
+use Rattle.core_state.specs.Events.Event.{claim}
 use Rattle.core_state.specs.Views.{settle, is_finished, unfinished, ends_finished, ends_with, on_top, top_items, push, note, learn, key_of}
 use Rattle.core_state.specs.declared.answers.Claim.TheVariants as claimed_as
 use Rattle.core_state.specs.declared.job.Job.{Job}
@@ -16,13 +17,14 @@ use Rattle.core_state.specs.declared.views.Known.{Known}
 use Rattle.core_state.specs.declared.views.Known.TheVariants as known_as
 use Rattle.core_state.specs.declared.views.Stack.{Stack}
 use Rattle.core_state.specs.declared.views.View.{View}
-use Rattle.core_state.proofs.Cases.{eqb_here}
+use Rattle.core_state.proofs.Base.Counting.{eqb_here}
 use Rattle.graph_model.specs.declared.record.Record.TheVariants as record_of
 use Rattle.key_table.specs.Path.{path_row}
 use Rattle.key_table.specs.Rules.{HasRules}
 use Rattle.key_table.specs.Walk.{Walked, IsWalk}
 use Rattle.key_table.proofs.Paths.{path_row-injective}
-use Rattle.core_steps.specs.Seat.{known_of, key_in, IsKeyStep, IsSameTable}
+use Rattle.core_steps.specs.Seat.{known_of, key_in, key_event}
+use Rattle.core_steps.specs.Table.{Sitting, IsSeatStep, view_at}
 use Rattle.core_steps.proofs.Telling.{key_in-suc}
 
 -- the view with other facts
@@ -110,23 +112,35 @@ known_made : (e : Setting) (row k : ℕ) (v : View) → known_of (after e (claim
 unfolding key_met
 known_made e row k v = ap (λ ks. key_in (word_in row ks)) (claim_known e row k 0 v) ∙ key_in-suc (cond (eqb row row) (k + 1) (word_in row v.known)) k (ap (λ (b : Bool). cond b (k + 1) (word_in row v.known)) (eqb_here row))
 
-module _ {S : Type 0} (did : S → ℕ → Option ℕ → S → Type 0) (setting : S → Setting) (lender : S → ℕ × ℕ) (others : S → List View) (key_table : (s t : S) (row : ℕ) (claimed : Option ℕ) → did s row claimed t → IsSameTable setting lender others s t) (k rows : ℕ) (claimed : Option ℕ) where
-  same_upto : (n : ℕ) (s t : S) → Walked did k rows claimed n s t → IsSameTable setting lender others s t
+-- what a walk leaves as it was: what is fixed for the table of a seat, what the seat borrows, what the other seats know and hold
+pub record StaysPut {S : Type 0} (setting : S → Setting) (lender : S → List ℕ) (others : S → List View) (s t : S) : Type 0 where
+  pub same_setting : setting t ≡ setting s
+  pub same_lender : lender t ≡ lender s
+  pub same_others : others t ≡ others s
+
+module _ {S : Type 0} (did : S → ℕ → Option ℕ → S → Type 0) (setting : S → Setting) (lender : S → List ℕ) (others : S → List View) (stays : (s t : S) (row : ℕ) (claimed : Option ℕ) → did s row claimed t → StaysPut setting lender others s t) (k rows : ℕ) (claimed : Option ℕ) where
+  same_upto : (n : ℕ) (s t : S) → Walked did k rows claimed n s t → StaysPut setting lender others s t
   same_upto zero s t same = record { same_setting = ap setting (sym same); same_lender = ap lender (sym same); same_others = ap others (sym same) }
-  same_upto (suc n) s t w = let a = same_upto n s w.0 w.1 in let b = key_table w.0 t (path_row k rows n) claimed w.2 in
+  same_upto (suc n) s t w = let a = same_upto n s w.0 w.1 in let b = stays w.0 t (path_row k rows n) claimed w.2 in
       record { same_setting = b.same_setting ∙ a.same_setting; same_lender = b.same_lender ∙ a.same_lender; same_others = b.same_others ∙ a.same_others }
 
   -- a walk changes nothing of the table that no step changes
-  pub walk_table : (made : S → ℕ) (s t : S) → IsWalk did made k rows claimed s t → IsSameTable setting lender others s t
+  pub walk_table : (made : S → ℕ) (s t : S) → IsWalk did made k rows claimed s t → StaysPut setting lender others s t
   walk_table made s t w = same_upto w.count s t w.steps
 
-module _ {S : Type 0} (did : S → ℕ → Option ℕ → S → Type 0) (setting : S → Setting) (view : S → View) (last shown lender : S → ℕ × ℕ) (others : S → List View)
-    (key_step : (s t : S) (row : ℕ) (claimed : Option ℕ) → did s row claimed t → IsKeyStep (setting s) row claimed (view s) (view t) (last t) (shown t))
-    (key_table : (s t : S) (row : ℕ) (claimed : Option ℕ) → did s row claimed t → IsSameTable setting lender others s t) where
+-- what a claim or a look of a seat tells of its view and of what it notes
+pub seat_key : (e : Setting) (row : ℕ) (claimed : Option ℕ) (s t : Sitting) → IsSeatStep e (key_event row claimed) s t
+    → (view_at t.table t.worker ≡ after e (key_event row claimed) t.steps.last.1 (view_at s.table s.worker)) × (t.steps.last.0 ≡ row)
+seat_key e row None s t step = (step.view_is ∙ ap (λ (o : ℕ × ℕ). after e (key_event row None) o.1 (view_at s.table s.worker)) (sym step.last_is), ap (λ (o : ℕ × ℕ). o.0) step.last_is)
+seat_key e row (Some k) s t step = (step.view_is ∙ ap (λ (o : ℕ × ℕ). after e (key_event row (Some k)) o.1 (view_at s.table s.worker)) (sym step.last_is), ap (λ (o : ℕ × ℕ). o.0) step.last_is)
+
+module _ {S : Type 0} (did : S → ℕ → Option ℕ → S → Type 0) (setting : S → Setting) (view : S → View) (last : S → ℕ × ℕ) (lender : S → List ℕ) (others : S → List View)
+    (key_step : (s t : S) (row : ℕ) (claimed : Option ℕ) → did s row claimed t → (view t ≡ after (setting s) (key_event row claimed) (last t).1 (view s)) × ((last t).0 ≡ row))
+    (stays : (s t : S) (row : ℕ) (claimed : Option ℕ) → did s row claimed t → StaysPut setting lender others s t) where
   module _ (k rows : ℕ) (some : 0 < rows) where
     -- the last claim of a walk, as an event on the view
     step_is : (s m t : S) (n : ℕ) → Walked did k rows (Some k) n s m → did m (path_row k rows n) (Some k) t → view t ≡ after (setting s) (claim (path_row k rows n) k) (last t).1 (view m)
-    step_is s m t n w d = subst (λ e. view t ≡ after e (claim (path_row k rows n) k) (last t).1 (view m)) (same_upto did setting lender others key_table k rows (Some k) n s m w).same_setting (key_step m t (path_row k rows n) (Some k) d).view_is
+    step_is s m t n w d = subst (λ e. view t ≡ after e (claim (path_row k rows n) k) (last t).1 (view m)) (same_upto did setting lender others stays k rows (Some k) n s m w).same_setting (key_step m t (path_row k rows n) (Some k) d).0
 
     apart : (i n : ℕ) → i < n → n < rows → path_row k rows i ≢ path_row k rows n
     apart i n less low e = let a = path_row-injective k rows i n some (omega (arith, less, low)) low e in omega (arith, a, less)
@@ -151,7 +165,7 @@ module _ {S : Type 0} (did : S → ℕ → Option ℕ → S → Type 0) (setting
 
     module _ (s t : S) (settled : IsSettled (setting s) (view s)) (one_row : (r o : ℕ) → known_of (view t) r ≡ Some k → known_of (view t) o ≡ Some k → r ≡ o) (here : known_of (view t) (last t).0 ≡ Some k) where
       before_last : (m : S) (n : ℕ) → n < rows → Walked did k rows (Some k) n s m → did m (path_row k rows n) (Some k) t → view m ≡ knowing (view m).known (view s)
-      before_last m n low w d = all_met n s m (omega (arith, low)) settled w (λ i less e. apart i n less low (one_row (path_row k rows i) (path_row k rows n) (known_before s m t n i less low w d ∙ e) (subst (λ r. known_of (view t) r ≡ Some k) (key_step m t (path_row k rows n) (Some k) d).row_is here)))
+      before_last m n low w d = all_met n s m (omega (arith, low)) settled w (λ i less e. apart i n less low (one_row (path_row k rows i) (path_row k rows n) (known_before s m t n i less low w d ∙ e) (subst (λ r. known_of (view t) r ≡ Some k) (key_step m t (path_row k rows n) (Some k) d).1 here)))
 
       found_upto : (n : ℕ) → n ≤ rows → Walked did k rows (Some k) n s t → (last t).1 ≢ 0 → view t ≡ knowing (view t).known (view s)
       found_upto zero low same full = ap view (sym same) ∙ ap (λ x. knowing (view x).known (view s)) same

@@ -2,17 +2,18 @@
 use Rattle.std.proofs.Common.{◌≡◌, ◌≢◌, ℕ, ◌+◌, ◌<◌, Bool, false, cond, ne_eqb, [], ◌∷◌, arith, sym, ap, refl, ◌∙◌, subst, Some}
 use Rattle.core_state.specs.Graph.{Setting}
 use Rattle.core_state.specs.Counts.{word_in, known_key, known_word}
-use Rattle.core_state.specs.Calls.{AtWork, KnowsRow, CanPost, CanSpend}
-use Rattle.core_state.specs.Calls.Spends.{itself}
-use Rattle.core_state.specs.Kinds.{after}
-use Rattle.core_state.specs.Kinds.Event.{buy, take}
-use Rattle.core_state.specs.Views.{settle, fresh, is_finished}
+use Rattle.core_state.specs.Guards.{AtWork, KnowsRow, CanPost, CanSpend}
+use Rattle.core_state.specs.Guards.Spends.{itself}
+use Rattle.core_state.specs.Events.{after}
+use Rattle.core_state.specs.Events.Event.{buy, take}
+use Rattle.core_state.specs.Views.{settle, fresh, is_finished, strike_next}
+use mathlib.Core.Option.{none}
 use Rattle.core_state.specs.declared.job.Job.{Job}
 use Rattle.core_state.specs.declared.job.Job.TheVariants.{Explore, Compute}
 use Rattle.core_state.specs.declared.views.Item.{Item}
 use Rattle.core_state.specs.declared.views.Item.TheVariants as item
 use Rattle.core_state.specs.declared.views.View.{View}
-use Rattle.core_state.proofs.Claiming.{word_known}
+use Rattle.core_state.proofs.Row.View.{word_known}
 use Rattle.core_steps.specs.Seat.{known_of}
 use Rattle.core_steps.proofs.Telling.{number_of}
 use Rattle.core_steps.proofs.Walking.{IsSettled, settled_at}
@@ -27,9 +28,9 @@ module _ (v : View) (r k : ℕ) (known : known_of v r ≡ Some k) where
   unfolding known_key known_word
   knows e low = record { low = low; row_known = word_known r v.known (let a = number_of (word_in r v.known) k known in omega (arith, a)) }
 
-  -- exploring that has passed the last place spends the self place
-  pub explored_can_spend : (e : Setting) (l j : ℕ) → r < e.shape.rows → j ≡ e.graph.places k → AtWork v (item.Explore k l j) → CanSpend e v r (known_key r v) 40
-  explored_can_spend e l j low all work = record { row = knows e low; edge = itself l (subst (λ y. AtWork v (item.Explore y l (e.graph.places y))) (sym key_is) (subst (λ i. AtWork v (item.Explore k l i)) all work)) refl }
+  -- exploring that has passed the last place spends the self place, where no strike is left
+  pub explored_can_spend : (e : Setting) (l j : ℕ) → r < e.shape.rows → j ≡ e.graph.places k → AtWork v (item.Explore k l j) → strike_next e.graph e.plan v ≡ none → CanSpend e v r (known_key r v) 40
+  explored_can_spend e l j low all work order = record { order = record { no_strike = order }; row = knows e low; edge = itself l (subst (λ y. AtWork v (item.Explore y l (e.graph.places y))) (sym key_is) (subst (λ i. AtWork v (item.Explore k l i)) all work)) refl }
 
 -- a credit comes, and the item at work stays
 pub bought : (e : Setting) (v w : View) (x : Item) (n : ℕ) → is_finished e.graph e.plan v.strikes x ≡ false → AtWork v x → w ≡ after e buy n v → w ≡ record v { spare = v.spare + 1 }

@@ -1,8 +1,8 @@
 -- The step that a call of a seat is.
-use Rattle.std.specs.Prelude.{ℕ}
+use Rattle.std.specs.Prelude.{ℕ, Bool, true, false, eqb}
 use Rattle.core_state.specs.Change.{no_cells}
 use Rattle.core_state.specs.Counts.{known_key}
-use Rattle.core_state.specs.Kinds.{Event, Event as event}
+use Rattle.core_state.specs.Events.{Event, Event as event}
 use Rattle.core_state.specs.declared.block.BlockCells.{BlockCells}
 use Rattle.core_state.specs.declared.views.View.{View}
 use Rattle.core_steps.specs.Seat.{hand_of}
@@ -43,3 +43,18 @@ block_event v TakeTurn b x = event.take_turn b x
 block_event v GiveRead b x = event.give_read b x
 block_event v (GiveWritten key life) b x = event.give_written key life b (hand_of v b) x
 block_event v (GiveStruck key life) b x = event.give_struck key life b (hand_of v b) x
+
+-- whether an event that finds the number n moves a block
+abbrev pub moves_block : Event → ℕ → Bool
+moves_block (event.take_turn b x) n = eqb n 0
+moves_block (event.give_read b x) n = true
+moves_block (event.give_written key life b x y) n = true
+moves_block (event.give_struck key life b x y) n = true
+moves_block _ n = false
+
+-- whether a block is given
+abbrev pub gives : BlockKind → Bool
+gives TakeTurn = false
+gives GiveRead = true
+gives (GiveWritten key life) = true
+gives (GiveStruck key life) = true

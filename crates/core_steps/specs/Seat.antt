@@ -1,11 +1,13 @@
 -- What the caller of a table's key words is, where its view is known.
-use Rattle.std.specs.Prelude.{◌≡◌, ℕ, zero, suc, ◌<◌, List, Option, Some, None}
+use Rattle.std.specs.Prelude.{◌≡◌, ℕ, zero, suc, ◌+◌, ◌<◌, List, Option, Some, None}
 use Rattle.core_state.specs.Change.{no_cells, cells_or, held_in}
 use Rattle.core_state.specs.Graph.{Setting}
-use Rattle.core_state.specs.Words.{Spot, key, place_of}
-use Rattle.core_state.specs.Counts.{items, is_exploring, notifies, suspects_block, word_in}
-use Rattle.core_state.specs.Kinds.{Event, Can, after}
-use Rattle.core_state.specs.Kinds.Event.{claim, look}
+use Rattle.core_state.specs.Words.{Spot, place_of}
+use Rattle.core_state.specs.Counts.{items, word_in}
+use Rattle.core_state.specs.Tests.{is_exploring, notifies, suspects_block}
+use Rattle.core_state.specs.Events.{Event, at, after}
+use Rattle.core_state.specs.Events.Event.{claim, look}
+use Rattle.core_state.specs.Sure.{IsSure, IsFound}
 use Rattle.core_state.specs.declared.block.BlockCells.{BlockCells}
 use Rattle.core_state.specs.declared.views.View.{View}
 
@@ -38,22 +40,34 @@ abbrev pub key_event : ℕ → Option ℕ → Event
 key_event r None = look r
 key_event r (Some k) = claim r k
 
--- one claim or look of a seat: its view before and after, its last claim or look, and the word of its last step
-pub record IsKeyStep (e : Setting) (row : ℕ) (claimed : Option ℕ) (v w : View) (last shown : ℕ × ℕ) : Type 0 where
-  pub can : Can e v (key_event row claimed)
-  pub view_is : w ≡ after e (key_event row claimed) last.1 v
-  pub row_is : last.0 ≡ row
-  pub shown_is : shown ≡ (place_of e.shape (key row), last.1)
+-- the row and the number of the last claim or look, once this event has found this number
+abbrev pub last_after : Event → ℕ → ℕ × ℕ → ℕ × ℕ
+last_after (claim r k) n last = (r, n)
+last_after (look r) n last = (r, n)
+last_after _ n last = last
 
 -- the word at this spot was the last that the seat stepped on
 abbrev pub Shows : Setting → Spot → ℕ × ℕ → Type 0
 Shows e a shown = shown.0 ≡ place_of e.shape a
 
--- what no step of a seat changes: what is fixed for its table, what it borrows, what the other seats know and hold
-pub record IsSameTable {S : Type 0} (setting : S → Setting) (lender : S → ℕ × ℕ) (others : S → List View) (s t : S) : Type 0 where
+-- what no step of a seat changes: what is fixed for its table, what it borrows, what the other seats know and hold. And the seat's own view is as every view is.
+pub record IsSameTable {S : Type 0} (setting : S → Setting) (view : S → View) (lender : S → List ℕ) (others : S → List View) (s t : S) : Type 0 where
   pub same_setting : setting t ≡ setting s
   pub same_lender : lender t ≡ lender s
   pub same_others : others t ≡ others s
+  pub sure : IsSure (setting t) (view t)
+
+-- one step of a seat: the event on the word at its spot, which held the number that is shown, and all that follows for the seat
+pub record IsStep {S : Type 0} (setting : S → Setting) (view : S → View) (made : S → ℕ) (last shown : S → ℕ × ℕ) (happened : S → Event → ℕ → S → Type 0) (lender : S → List ℕ) (others : S → List View) (x : Event) (s t : S) : Type 0 where
+  pub word : Shows (setting s) (at x) (shown t)
+  pub view_is : view t ≡ after (setting s) x (shown t).1 (view s)
+  pub one_made : made t ≡ made s + 1
+  pub last_is : last t ≡ last_after x (shown t).1 (last s)
+  -- the table's word held this number, and holds what the event leaves of it
+  pub stepped : happened s x (shown t).1 t
+  -- what the seat knew of the word is true of the number
+  pub found : IsFound (setting s) (view s) (at x) (shown t).1
+  pub table : IsSameTable setting view lender others s t
 
 -- the steps that a seat has made: how many, the place and the number of the last word, and the row and the number of the last claim or look
 pub record Trace : Type 0 where

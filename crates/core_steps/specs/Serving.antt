@@ -1,7 +1,7 @@
 -- What a view says of the item at work: its life, and what it serves.
 use Rattle.std.specs.Prelude.{ℕ, Bool, false, List, [], ◌∷◌}
 use Rattle.core_state.specs.Graph.{Setting}
-use Rattle.core_state.specs.Calls.{AtWork, KnowsRow}
+use Rattle.core_state.specs.Guards.{AtWork, KnowsRow}
 use Rattle.core_state.specs.Views.{top_items}
 use Rattle.core_state.specs.declared.views.Item.{Item}
 use Rattle.core_state.specs.declared.views.Item.TheVariants as item

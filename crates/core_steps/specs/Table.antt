@@ -1,29 +1,26 @@
 -- The plain table as clauses see it, and what holds of it at all times.
 use Rattle.std.specs.Prelude.{◌≡◌, ℕ, ℤ, ◌+◌, ◌-◌, ◌*◌, ◌%◌, ◌<◌, ◌≤◌, ◌^◌, min, ◌++◌, ◌&&◌, Bool, true, false, cond, eqb, List, [], ◌∷◌, Option, Some, None, length, replicate, slice_index, slice_index_or, slice_set}
 use Rattle.core_state.specs.Graph.{Setting, Sound}
-use Rattle.core_state.specs.Words.{Shape, width, place_of, key, turn}
-use Rattle.core_state.specs.Counts.{count, in_hand, noted, total_of, key_named}
+use Rattle.core_state.specs.Words.{Shape, Spot, width, place_of, key, turn}
+use Rattle.core_state.specs.Counts.{count, in_hand, noted, total_of}
+use Rattle.core_state.specs.Tests.{key_named}
 use Rattle.core_state.specs.Change.{Core, core_of, block_of}
-use Rattle.core_state.specs.Events.{after_computed}
+use Rattle.core_state.specs.Effects.{after_computed}
+use Rattle.core_state.specs.Cover.{Passed}
 use Rattle.core_state.specs.Invariant.{Invariant}
-use Rattle.core_state.specs.Views.{bare, blank, opener, all_parts, key_of}
-use Rattle.core_state.specs.Kinds.{after, Can, Event as event}
-use Rattle.core_state.specs.declared.answers.Closing.{Closing}
-use Rattle.core_state.specs.declared.answers.Closing.TheVariants as closing
-use Rattle.core_state.specs.declared.answers.Hitting.{Hitting}
-use Rattle.core_state.specs.declared.answers.Hitting.TheVariants as hitting
-use Rattle.core_state.specs.declared.answers.Told.{Told}
-use Rattle.core_state.specs.declared.answers.Told.TheVariants as told
+use Rattle.core_state.specs.Prevented.{Prevented}
+use Rattle.core_state.specs.Views.{bare, blank, opener, all_parts}
+use Rattle.core_state.specs.Events.{after, at, left, Can, Event, Event as event}
 use Rattle.core_state.specs.declared.block.BlockCells.{BlockCells}
 use Rattle.core_state.specs.declared.layout.Layout.{Layout}
 use Rattle.core_state.specs.declared.views.View.{View}
-use Rattle.graph_model.specs.declared.record.Hit.{Hit}
 use Rattle.graph_model.specs.declared.record.Record.{Record}
 use Rattle.graph_model.specs.declared.record.Record.TheVariants as record_of
 use Rattle.core_steps.specs.Kinds.{event_of, block_event}
-use Rattle.core_steps.specs.Seat.{key_event, cells_in}
+use Rattle.core_steps.specs.Seat.{Trace, IsStep, cells_in}
 use Rattle.core_steps.specs.declared.kinds.BlockKind.{BlockKind}
 use Rattle.core_steps.specs.declared.kinds.Kind.{Kind}
+use Rattle.core_steps.specs.declared.kinds.Touched.{Touched}
 
 -- records that are kept, and for how many more there is room
 pub record Stored : Type 0 where
@@ -103,6 +100,9 @@ pub record IsSound (e : Setting) (p : Plain) : Type 0 where
   pub root_is : e.graph.root ≡ 2 ^ 63
   pub fits : length p.words ≡ word_count p.shape
   pub holds : Invariant e (core_by p.shape p.words p.blocks p.views)
+  -- the strikes of each passed point were made, and before it was passed
+  pub passed : Passed e (core_by p.shape p.words p.blocks p.views)
+  pub prevented : Prevented e (core_by p.shape p.words p.blocks p.views)
   pub keeps : Keeps e.graph.root p.views p.stores p.root_replaced
   pub workers : length p.stores ≡ length p.views
   -- a block that is at home is in no hand
@@ -136,45 +136,33 @@ with_record s x = record { records = s.records ++ x ∷ []; room = s.room - 1 }
 abbrev pub no_store : Stored
 no_store = record { records = []; room = 0 }
 
--- the table with one record more of a worker
-abbrev pub recorded : ℕ → Record → Plain → Plain
-recorded i x p = record p { stores = slice_set p.stores i (with_record (slice_index_or p.stores i no_store) x) }
+-- the records that there are, in place of one that may be
+abbrev pub as_list : Option Record → List Record
+as_list None = []
+as_list (Some x) = x ∷ []
 
--- the same with an entry, if there is one
-abbrev pub entered : ℕ → Option Record → Plain → Plain
-entered i None p = p
-entered i (Some x) p = recorded i x p
+-- what a store keeps of a record, if there is one: nothing of the root
+abbrev pub kept_store : ℕ → Option Record → Stored → Stored
+kept_store root None s = s
+kept_store root (Some x) s = cond (eqb root (key_named x)) s (with_record s x)
+
+-- what the list of the root's replacements keeps of it
+abbrev pub kept_list : ℕ → Option Record → List Record → List Record
+kept_list root None xs = xs
+kept_list root (Some x) xs = cond (is_root_replaced root x) (xs ++ x ∷ []) xs
+
+-- for how many more there is room in that list then
+abbrev pub kept_room : ℕ → Option Record → ℕ → ℕ
+kept_room root None n = n
+kept_room root (Some x) n = cond (is_root_replaced root x) (n - 1) n
+
+-- the table with what is kept of the record of a step of worker i
+abbrev pub entered : ℕ → ℕ → Option Record → Plain → Plain
+entered root i y p = record p { stores = slice_set p.stores i (kept_store root y (slice_index_or p.stores i no_store)); root_replaced = kept_list root y p.root_replaced; replaced_room = kept_room root y p.replaced_room }
 
 -- how many more records of a worker there is room for, whichever they are: in its own store, and in the list of the root's replacements
 abbrev pub spare_of : Plain → ℕ → ℕ
 spare_of p i = min (slice_index_or p.stores i no_store).room p.replaced_room
-
--- the table with one replacement of the root more
-abbrev pub replaced_by : Record → Plain → Plain
-replaced_by x p = record p { root_replaced = p.root_replaced ++ x ∷ []; replaced_room = p.replaced_room - 1 }
-
--- what is kept of a record that names the key k: nothing for the root
-abbrev pub kept_entry : ℕ → ℕ → Record → Option Record
-kept_entry root k x = cond (eqb k root) None (Some x)
-
--- what is recorded of a spending of place j of the key k, by what it told: nothing for the root
-abbrev pub spent_entry : ℕ → ℕ → ℕ → Told → Option Record
-spent_entry root k j (told.Spent l) = cond (eqb k root) None (Some (record_of.Spent (key_of k) l j))
-spent_entry root k j (told.Last l) = cond (eqb k root) None (Some (record_of.Spent (key_of k) l j))
-spent_entry root k j (told.Already l) = None
-spent_entry root k j (told.Struck l) = None
-
--- what is recorded of a closing of word w of life l of the key k, by what it told: nothing for the root
-abbrev pub closed_entry : ℕ → ℕ → ℕ → ℕ → Closing → Option Record
-closed_entry root k l w (closing.Edges ports) = cond (eqb k root) None (Some (record_of.Closed (key_of k) l w))
-closed_entry root k l w (closing.Stale m) = None
-closed_entry root k l w (closing.Struck m) = None
-closed_entry root k l w (closing.Moved m) = None
-
--- what is recorded of a strike on a word of the key k, by what it told: nothing for the root
-abbrev pub struck_entry : ℕ → ℕ → Hit → Hitting → Option Record
-struck_entry root k h (hitting.Landed l) = kept_entry root k (record_of.Struck (key_of k) l h)
-struck_entry root k h (hitting.Missed l) = None
 
 -- the shape of a layout
 abbrev pub shape_of : Layout → Shape
@@ -184,16 +172,43 @@ shape_of x = record { rows = x.rows; notify_words = x.words_per_row; blocks = le
 abbrev pub first_views : Setting → ℕ → List View
 first_views e workers = opener (all_parts - (workers - 1)) e.graph.root (e.graph.root % e.shape.rows) ∷ replicate (workers - 1) (bare 1 [])
 
--- one claim of a key by a worker, or one look, that found the number n
-pub record KeyStepped (e : Setting) (i row : ℕ) (claimed : Option ℕ) (n : ℕ) (p q : Plain) : Type 0 where
-  pub can : Can e (view_at p i) (key_event row claimed)
-  pub found_is : n ≡ slice_index p.words (place_of p.shape (key row))
-  pub view_is : view_at q i ≡ after e (key_event row claimed) n (view_at p i)
+-- this is the word of the table at the spot, with the number that it holds
+pub record IsWordAt (p : Plain) (a : Spot) (t : Touched) : Type 0 where
+  pub at_is : t.at ≡ place_of p.shape a
+  pub found_is : t.found ≡ slice_index p.words t.at
+  pub within : t.at < length p.words
+
+-- the words of a table before and after an event of a seat that found the number n: it stood at the event's spot, where what the event leaves of it stands now, and all other words are the same
+pub record WordsAfter (e : Setting) (x : Event) (n : ℕ) (before now : List ℕ) : Type 0 where
+  pub found_is : n ≡ slice_index before (place_of e.shape (at x))
+  pub words_are : now ≡ slice_set before (place_of e.shape (at x)) (left e x n)
+
+-- one event of a worker on the word that it touched: the view could make it, and made it, and the table is sound before and after
+pub record IsTableStep (e : Setting) (i : ℕ) (x : Event) (t : Touched) (p q : Plain) : Type 0 where
+  pub can : Can e (view_at p i) x
+  pub at_is : t.at ≡ place_of e.shape (at x)
+  pub words : WordsAfter e x t.found p.words q.words
+  pub view_is : view_at q i ≡ after e x t.found (view_at p i)
   pub others_are : slice_set q.views i blank ≡ slice_set p.views i blank
   pub workers_are : length q.views ≡ length p.views
   pub low : i < length p.views
   pub before : IsSound e p
   pub afterwards : IsSound e q
+
+-- a seat as its calls see it: the table, by which name it was lent, whose seat it is, and the steps that were made
+pub record Sitting : Type 0 where
+  pub table : Plain
+  pub name : ℕ
+  pub worker : ℕ
+  pub steps : Trace
+
+-- what who lent the table learns it by
+abbrev pub lender_of : Sitting → List ℕ
+lender_of s = s.name ∷ s.worker ∷ []
+
+-- one step of such a seat
+abbrev pub IsSeatStep : Setting → Event → Sitting → Sitting → Type 0
+IsSeatStep e x s t = IsStep {S = Sitting} (λ u. e) (λ u. view_at u.table u.worker) (λ u. u.steps.made) (λ u. u.steps.last) (λ u. u.steps.shown) (λ u y n w. WordsAfter e y n u.table.words w.table.words) lender_of (λ u. slice_set u.table.views u.worker blank) x s t
 
 -- no block was ever written or struck
 abbrev pub IsUnwritten : List (Option BlockCells) → Type 0
@@ -242,6 +257,11 @@ pub record IsClosing (e : Setting) (vs : List View) (ws : List ℕ) (bs : List (
   pub setting : Sound e
   pub fits : length ws ≡ word_count e.shape
   pub holds : Invariant e (core_by e.shape ws bs vs)
+  pub passed : Passed e (core_by e.shape ws bs vs)
+  pub prevented : Prevented e (core_by e.shape ws bs vs)
+  -- a block that is at home is in no hand, and one that is not is in a hand
+  pub at_home : (b : ℕ) (x : BlockCells) → slice_index_or bs b None ≡ Some x → total_of vs (in_hand b) ≡ 0
+  pub housed : IsHoused e e.shape bs vs
   pub others : (p : Record → Bool) → count p records ≡ total_of vs (noted (λ x. p x && is_kept e.graph.root x))
   pub replaced : (p : Record → Bool) → count p root_replaced ≡ total_of vs (noted (λ x. p x && is_root_replaced e.graph.root x))
 

@@ -3,7 +3,7 @@ use graph_model::Cause;
 
 /// A step of one seat of a table, with what its call is passed.
 #[derive(Clone, Copy, Drop)]
-pub(crate) enum Kind {
+pub enum Kind {
     Claim {
         row: u32,
         key: u64,
@@ -77,9 +77,16 @@ pub(crate) enum Kind {
     },
 }
 
+/// The word that a step is on: its place in the list of words, and the number that it holds before.
+#[derive(Clone, Copy, Drop)]
+pub struct Touched {
+    pub at: usize,
+    pub found: u64,
+}
+
 /// A step of one seat that takes a block or gives one, with what its call is passed besides the block.
 #[derive(Clone, Copy, Drop)]
-pub(crate) enum BlockKind {
+pub enum BlockKind {
     TakeTurn,
     GiveRead,
     GiveWritten { key: u64, life: u32 },

@@ -2,20 +2,23 @@
 #![tactic(auto)]
 
 mod blocks;
+mod claiming;
 mod closed;
 mod closes;
 mod electing;
 mod hints;
-mod kinds;
+mod jobs;
+pub mod kinds;
 mod loads;
-mod making;
+pub mod making;
 mod plain;
 mod renewing;
 mod seat;
 mod steps;
 mod store;
 mod striking;
-mod trace;
+mod touching;
+pub mod trace;
 mod views;
 
 pub use closed::Closed;

@@ -1,50 +1,77 @@
-//! The loads of a row's words.
-use crate::kinds::Kind;
+//! The loads of a row's words, of pending and of stop.
+use crate::kinds::{Kind, Touched};
 use crate::plain::PlainTable;
 use core_state::{Course, Descriptor, NotifyWord, Recovery};
 
 impl<C: Course> PlainTable<C> {
-    ghost use Rattle.std.specs.Prelude.{◌≡◌, ◌<◌, length, slice_index};
-    ghost use Rattle.core_state.specs.Words.{place_of, descriptor, notify, recovery, standing_life};
-    ghost use Rattle.core_state.specs.Calls.{CanLoadNotify, KnowsRow};
+    ghost use Rattle.std.specs.Prelude.{◌≡◌, ◌<◌, length};
+    ghost use Rattle.core_state.specs.Words.{standing_life};
+    ghost use Rattle.core_state.specs.Guards.{CanLoadNotify, KnowsRow};
     ghost use Rattle.core_state.specs.Packed.{descriptor_of, notify_of, recovery_of};
     ghost use Rattle.core_state.specs.Counts.{known_key};
-    ghost use Rattle.core_steps.specs.Table.{view_at, stepped_by};
+    ghost use Rattle.core_state.specs.Events.{Event as event};
+    ghost use Rattle.core_steps.specs.Table.{IsTableStep, view_at, spare_of};
 
-    pub(crate) fn load_descriptor(&mut self, worker: usize, row: u32) -> Descriptor
+    pub(crate) fn load_descriptor(&mut self, worker: usize, row: u32) -> (Descriptor, Touched)
         requires worker { worker < length self.old.views }
         requires can { KnowsRow C.setting (view_at self.old worker) row (known_key row (view_at self.old worker)) }
-        ensures shows { result ≡ descriptor_of (slice_index self.old.words (place_of self.old.shape (descriptor row))) }
-        ensures table { let at = place_of self.old.shape (descriptor row) in let n = slice_index self.old.words at in self.new ≡ stepped_by C.setting self.old worker (Kind.LoadDescriptor row) at n n }
+        ensures shows { result.0 ≡ descriptor_of result.1.found }
+        ensures step { IsTableStep C.setting worker (event.load_descriptor row (known_key row (view_at self.old worker))) result.1 self.old self.new }
+        ensures room { spare_of self.new worker ≡ spare_of self.old worker }
     {
-        let at = self.descriptor_at(row);
-        let found = self.word(at);
-        self.step(worker, Kind::LoadDescriptor { row }, at, found, found);
-        Descriptor::of_word(found)
+        let word = self.descriptor_word(row);
+        self.step(worker, Kind::LoadDescriptor { row }, word, word.found);
+        (Descriptor::of_word(word.found), word)
     }
 
-    pub(crate) fn load_notify(&mut self, worker: usize, row: u32, word: u32) -> NotifyWord
+    pub(crate) fn load_notify(
+        &mut self,
+        worker: usize,
+        row: u32,
+        word: u32,
+    ) -> (NotifyWord, Touched)
         requires worker { worker < length self.old.views }
         requires can { CanLoadNotify C.setting (view_at self.old worker) row (known_key row (view_at self.old worker)) word }
-        ensures shows { result ≡ notify_of (slice_index self.old.words (place_of self.old.shape (notify row word))) }
-        ensures table { let at = place_of self.old.shape (notify row word) in let n = slice_index self.old.words at in self.new ≡ stepped_by C.setting self.old worker (Kind.LoadNotify row word) at n n }
+        ensures shows { result.0 ≡ notify_of result.1.found }
+        ensures step { IsTableStep C.setting worker (event.load_notify row (known_key row (view_at self.old worker)) word) result.1 self.old self.new }
+        ensures room { spare_of self.new worker ≡ spare_of self.old worker }
     {
-        let at = self.notify_word_at(worker, row, word);
-        let found = self.word(at);
-        self.step(worker, Kind::LoadNotify { row, word }, at, found, found);
-        NotifyWord::of_word(found)
+        let touched = self.notify_word(worker, row, word);
+        let kind = Kind::LoadNotify { row, word };
+        self.step(worker, kind, touched, touched.found);
+        (NotifyWord::of_word(touched.found), touched)
     }
 
-    pub(crate) fn load_recovery(&mut self, worker: usize, row: u32) -> Recovery
+    pub(crate) fn load_recovery(&mut self, worker: usize, row: u32) -> (Recovery, Touched)
         requires worker { worker < length self.old.views }
         requires can { KnowsRow C.setting (view_at self.old worker) row (known_key row (view_at self.old worker)) }
-        ensures shows { result ≡ recovery_of (slice_index self.old.words (place_of self.old.shape (recovery row))) }
-        ensures life { result.life ≡ standing_life (slice_index self.old.words (place_of self.old.shape (recovery row))) }
-        ensures table { let at = place_of self.old.shape (recovery row) in let n = slice_index self.old.words at in self.new ≡ stepped_by C.setting self.old worker (Kind.LoadRecovery row) at n n }
+        ensures shows { result.0 ≡ recovery_of result.1.found }
+        ensures life { result.0.life ≡ standing_life result.1.found }
+        ensures step { IsTableStep C.setting worker (event.load_recovery row (known_key row (view_at self.old worker))) result.1 self.old self.new }
+        ensures room { spare_of self.new worker ≡ spare_of self.old worker }
     {
-        let at = self.recovery_at(row);
-        let found = self.word(at);
-        self.step(worker, Kind::LoadRecovery { row }, at, found, found);
-        Recovery::of_word(found)
+        let word = self.recovery_word(row);
+        self.step(worker, Kind::LoadRecovery { row }, word, word.found);
+        (Recovery::of_word(word.found), word)
+    }
+
+    pub(crate) fn load_pending(&mut self, worker: usize) -> Touched
+        requires worker { worker < length self.old.views }
+        ensures step { IsTableStep C.setting worker event.load_pending result self.old self.new }
+        ensures room { spare_of self.new worker ≡ spare_of self.old worker }
+    {
+        let word = self.pending_word();
+        self.step(worker, Kind::LoadPending, word, word.found);
+        word
+    }
+
+    pub(crate) fn load_stop(&mut self, worker: usize) -> Touched
+        requires worker { worker < length self.old.views }
+        ensures step { IsTableStep C.setting worker event.load_stop result self.old self.new }
+        ensures room { spare_of self.new worker ≡ spare_of self.old worker }
+    {
+        let word = self.stop_word();
+        self.step(worker, Kind::LoadStop, word, word.found);
+        word
     }
 }

@@ -1,10 +1,12 @@
 //! A worker's seat at the plain table.
 ghost use Rattle.std.proofs.Common.{refl};
-ghost use Rattle.std.specs.Prelude.{◌≡◌, ℕ, ◌<◌, ◌+◌, length, slice_index, slice_index_or, slice_set};
+ghost use Rattle.std.specs.Prelude.{◌≡◌, ◌<◌, ◌+◌, [], ◌∷◌, length, slice_set};
 ghost use Rattle.core_state.specs.Views.{blank};
-ghost use Rattle.core_steps.specs.Seat.{Explores, Awaits, known_of, IsKeyStep, Trace};
-ghost use Rattle.core_steps.specs.Table.{view_at, spare_of};
+ghost use Rattle.core_steps.specs.Seat.{Explores, Awaits, known_of, key_event, Trace};
+ghost use Rattle.core_state.specs.Events.{Can};
+ghost use Rattle.core_steps.specs.Table.{IsSeatStep, WordsAfter, view_at, spare_of};
 
+use crate::kinds::Touched;
 use crate::plain::PlainTable;
 use crate::steps::Steps;
 use crate::trace;
@@ -12,7 +14,7 @@ use core_state::{
     BlockCells, Closing, Course, Descriptor, Elected, Hitting, Job, NotifyWord, Recovery,
     Registered, Told,
 };
-use ghost_log::Ghost;
+use ghost_value::Ghost;
 use graph_model::{Cause, Key};
 use key_table::{Claim, KeyWords, Seen};
 use std::alloc::AllocError;
@@ -53,21 +55,16 @@ impl<C: Course> PlainTable<C> {
     }
 }
 
-fn stepped(before: &Ghost<trace::Steps>, at: usize, found: u64) -> Ghost<trace::Steps>
-    ensures { result ≡ record { made = before.now.made + 1; shown = (at, found); last = before.now.last } }
+fn stepped(before: &Ghost<trace::Steps>, word: Touched) -> Ghost<trace::Steps>
+    ensures { result ≡ record { made = before.now.made + 1; shown = (word.at, word.found); last = before.now.last } }
 {
-    Ghost::of::<trace::Step<'_>, trace::Stepped>(&trace::Step { before, at, found })
+    Ghost::of::<trace::Step<'_>, trace::Stepped>(&trace::Step { before, word })
 }
 
-fn key_stepped(before: &Ghost<trace::Steps>, row: u32, at: usize, found: u64) -> Ghost<trace::Steps>
-    ensures { result ≡ record { made = before.now.made + 1; shown = (at, found); last = (row, found) } }
+fn key_stepped(before: &Ghost<trace::Steps>, row: u32, word: Touched) -> Ghost<trace::Steps>
+    ensures { result ≡ record { made = before.now.made + 1; shown = (word.at, word.found); last = (row, word.found) } }
 {
-    Ghost::of::<trace::KeyStep<'_>, trace::Stepped>(&trace::KeyStep {
-        before,
-        row,
-        at,
-        found,
-    })
+    Ghost::of::<trace::KeyStep<'_>, trace::Stepped>(&trace::KeyStep { before, row, word })
 }
 
 impl<'a, C: Course> KeyWords for PlainSeat<'a, C> {
@@ -87,29 +84,27 @@ impl<'a, C: Course> KeyWords for PlainSeat<'a, C> {
 
     ghost last = { λ s. s.steps.last };
 
-    ghost did = { λ s row claimed t. IsKeyStep C.setting row claimed (view_at s.table.now s.worker) (view_at t.table.now t.worker) t.steps.last t.steps.shown × ◌≡◌ {A = ℕ × ℕ} (t.table.ghost_name, t.worker) (s.table.ghost_name, s.worker) × (slice_set t.table.now.views t.worker blank ≡ slice_set s.table.now.views s.worker blank) };
+    ghost did = { λ s row claimed t. Can C.setting (view_at s.table.now s.worker) (key_event row claimed) × IsSeatStep C.setting (key_event row claimed) (record { table = s.table.now; name = s.table.ghost_name; worker = s.worker; steps = s.steps }) (record { table = t.table.now; name = t.table.ghost_name; worker = t.worker; steps = t.steps }) };
 
     fn rows(&self) -> u32 {
         self.table.rows()
     }
 
     fn claim(&mut self, row: u32, key: Key) -> Claim {
-        let at = self.table.key_at(row);
-        let found = self.table.word(at);
-        let claim = self.table.claim(self.worker, row, key);
-        self.steps = key_stepped(&self.steps, row, at, found);
+        let _ = self.table.rows();
+        let (claim, word) = self.table.claim(self.worker, row, key);
+        self.steps = key_stepped(&self.steps, row, word);
         claim
     }
 
     fn look(&mut self, row: u32) -> Seen {
-        let at = self.table.key_at(row);
-        let found = self.table.look(self.worker, row);
-        self.steps = key_stepped(&self.steps, row, at, found);
-        if found == 0 {
+        let word = self.table.look(self.worker, row);
+        self.steps = key_stepped(&self.steps, row, word);
+        if word.found == 0 {
             Seen::Empty
         } else {
             Seen::Holds {
-                key: Key(found - 1),
+                key: Key(word.found - 1),
             }
         }
     }
@@ -122,7 +117,9 @@ impl<'a, C: Course> Steps for PlainSeat<'a, C> {
 
     ghost shown = { λ s. s.steps.shown };
 
-    ghost lender = { λ s. (s.table.ghost_name, s.worker) };
+    ghost happened = { λ s x n t. WordsAfter C.setting x n s.table.now.words t.table.now.words };
+
+    ghost lender = { λ s. s.table.ghost_name ∷ s.worker ∷ [] };
 
     ghost others = { λ s. slice_set s.table.now.views s.worker blank };
 
@@ -130,170 +127,118 @@ impl<'a, C: Course> Steps for PlainSeat<'a, C> {
         self.table.reserve(self.worker, n)
     }
 
-    #[tactic(auto, using(crate::proofs::Seats::set_twice))]
     fn load_descriptor(&mut self, row: u32) -> Descriptor {
-        let at = self.table.descriptor_at(row);
-        let found = self.table.word(at);
-        let shown = self.table.load_descriptor(self.worker, row);
-        self.steps = stepped(&self.steps, at, found);
-        shown
+        let (told, word) = self.table.load_descriptor(self.worker, row);
+        self.steps = stepped(&self.steps, word);
+        told
     }
 
-    #[tactic(auto, using(crate::proofs::Seats::set_twice))]
     fn load_notify(&mut self, row: u32, word: u32) -> NotifyWord {
-        let at = self.table.notify_word_at(self.worker, row, word);
-        let found = self.table.word(at);
-        let shown = self.table.load_notify(self.worker, row, word);
-        self.steps = stepped(&self.steps, at, found);
-        shown
+        let (told, touched) = self.table.load_notify(self.worker, row, word);
+        self.steps = stepped(&self.steps, touched);
+        told
     }
 
-    #[tactic(auto, using(crate::proofs::Seats::set_twice))]
     fn load_recovery(&mut self, row: u32) -> Recovery {
-        let at = self.table.recovery_at(row);
-        let found = self.table.word(at);
-        let shown = self.table.load_recovery(self.worker, row);
-        self.steps = stepped(&self.steps, at, found);
-        shown
+        let (told, word) = self.table.load_recovery(self.worker, row);
+        self.steps = stepped(&self.steps, word);
+        told
     }
 
-    #[tactic(auto, using(crate::proofs::Seats::set_twice))]
     fn load_pending(&mut self) -> u64 {
-        let found = self.table.load_pending(self.worker);
-        self.steps = stepped(&self.steps, 0, found);
-        found
+        let word = self.table.load_pending(self.worker);
+        self.steps = stepped(&self.steps, word);
+        word.found
     }
 
-    #[tactic(auto, using(crate::proofs::Seats::set_twice))]
     fn load_stop(&mut self) -> bool {
-        let found = self.table.load_stop(self.worker);
-        self.steps = stepped(&self.steps, 1, found);
-        found == 1
+        let word = self.table.load_stop(self.worker);
+        self.steps = stepped(&self.steps, word);
+        word.found == 1
     }
 
-    #[tactic(auto, using(crate::proofs::Seats::set_twice))]
     fn post(&mut self, row: u32, job: Job, life: u32) -> u32 {
-        let at = self.table.job_at(row, job);
-        let found = self.table.post(self.worker, row, job, life);
-        self.steps = stepped(&self.steps, at, found as u64);
-        found
+        let (told, word) = self.table.post(self.worker, row, job, life);
+        self.steps = stepped(&self.steps, word);
+        told
     }
 
-    #[tactic(auto, using(crate::proofs::Seats::set_twice))]
     fn take(&mut self, row: u32, job: Job) -> u32 {
-        let at = self.table.job_at(row, job);
-        let found = self.table.take(self.worker, row, job);
-        self.steps = stepped(&self.steps, at, found as u64);
-        found
+        let (told, word) = self.table.take(self.worker, row, job);
+        self.steps = stepped(&self.steps, word);
+        told
     }
 
-    #[tactic(auto, using(crate::proofs::Seats::set_twice))]
     fn register(&mut self, row: u32, port: u32) -> Registered {
-        let at = self.table.notify_at(self.worker, row, port);
-        let found = self.table.word(at);
-        let told = self.table.register(self.worker, row, port);
-        self.steps = stepped(&self.steps, at, found);
+        let (told, word) = self.table.register(self.worker, row, port);
+        self.steps = stepped(&self.steps, word);
         told
     }
 
-    #[tactic(auto, using(crate::proofs::Seats::set_twice))]
     fn spend(&mut self, row: u32, place: u32, preds: u32) -> Told {
-        let at = self.table.descriptor_at(row);
-        let found = self.table.word(at);
-        let told = self.table.spend(self.worker, row, place, preds);
-        self.steps = stepped(&self.steps, at, found);
+        let (told, word) = self.table.spend(self.worker, row, place, preds);
+        self.steps = stepped(&self.steps, word);
         told
     }
 
-    #[tactic(auto, using(crate::proofs::Seats::set_twice))]
     fn close(&mut self, row: u32, life: u32, word: u32, seen: NotifyWord) -> Closing {
-        let at = self.table.notify_word_at(self.worker, row, word);
-        let found = self.table.word(at);
-        let told = self.table.close_word(self.worker, row, life, word, seen);
-        self.steps = stepped(&self.steps, at, found);
+        let (told, touched) = self.table.close_word(self.worker, row, life, word, seen);
+        self.steps = stepped(&self.steps, touched);
         told
     }
 
-    #[tactic(auto, using(crate::proofs::Seats::set_twice))]
     fn elect(&mut self, row: u32, life: u32, cause: Cause) -> Elected {
-        let at = self.table.recovery_at(row);
-        let found = self.table.word(at);
-        let told = self.table.elect(self.worker, row, life, cause);
-        self.steps = stepped(&self.steps, at, found);
+        let (told, word) = self.table.elect(self.worker, row, life, cause);
+        self.steps = stepped(&self.steps, word);
         told
     }
 
-    #[tactic(auto, using(crate::proofs::Seats::set_twice))]
     fn renew_notify(&mut self, row: u32, word: u32) {
-        let at = self.table.notify_word_at(self.worker, row, word);
-        let found = self.table.word(at);
-        self.table.renew_notify(self.worker, row, word);
-        self.steps = stepped(&self.steps, at, found);
+        let touched = self.table.renew_notify(self.worker, row, word);
+        self.steps = stepped(&self.steps, touched);
     }
 
-    #[tactic(auto, using(crate::proofs::Seats::set_twice))]
     fn renew_descriptor(&mut self, row: u32) {
-        let at = self.table.descriptor_at(row);
-        let found = self.table.word(at);
-        self.table.renew_descriptor(self.worker, row);
-        self.steps = stepped(&self.steps, at, found);
+        let word = self.table.renew_descriptor(self.worker, row);
+        self.steps = stepped(&self.steps, word);
     }
 
-    #[tactic(auto, using(crate::proofs::Seats::set_twice))]
     fn finish(&mut self, row: u32) {
-        let at = self.table.recovery_at(row);
-        let found = self.table.word(at);
-        self.table.finish(self.worker, row);
-        self.steps = stepped(&self.steps, at, found);
+        let word = self.table.finish(self.worker, row);
+        self.steps = stepped(&self.steps, word);
     }
 
-    #[tactic(auto, using(crate::proofs::Seats::set_twice))]
     fn strike_descriptor(&mut self, row: u32) -> Hitting {
-        let at = self.table.descriptor_at(row);
-        let found = self.table.word(at);
-        let told = self.table.strike_descriptor(self.worker, row);
-        self.steps = stepped(&self.steps, at, found);
+        let (told, word) = self.table.strike_descriptor(self.worker, row);
+        self.steps = stepped(&self.steps, word);
         told
     }
 
-    #[tactic(auto, using(crate::proofs::Seats::set_twice))]
     fn strike_notify(&mut self, row: u32, word: u32) -> Hitting {
-        let at = self.table.notify_word_at(self.worker, row, word);
-        let found = self.table.word(at);
-        let told = self.table.strike_notify(self.worker, row, word);
-        self.steps = stepped(&self.steps, at, found);
+        let (told, touched) = self.table.strike_notify(self.worker, row, word);
+        self.steps = stepped(&self.steps, touched);
         told
     }
 
-    #[tactic(auto, using(crate::proofs::Seats::set_twice))]
     fn buy(&mut self) {
-        let found = self.table.pending();
-        self.table.buy(self.worker);
-        self.steps = stepped(&self.steps, 0, found);
+        let word = self.table.buy(self.worker);
+        self.steps = stepped(&self.steps, word);
     }
 
-    #[tactic(auto, using(crate::proofs::Seats::set_twice))]
     fn drop_credit(&mut self) {
-        let found = self.table.pending();
-        self.table.drop_credit(self.worker);
-        self.steps = stepped(&self.steps, 0, found);
+        let word = self.table.drop_credit(self.worker);
+        self.steps = stepped(&self.steps, word);
     }
 
-    #[tactic(auto, using(crate::proofs::Seats::set_twice))]
     fn take_turn(&mut self, block: u32) -> Option<BlockCells> {
-        let at = self.table.turn_at(block);
-        let found = self.table.word(at);
-        let taken = self.table.take_turn(self.worker, block);
-        self.steps = stepped(&self.steps, at, found);
-        taken
+        let (told, word) = self.table.take_turn(self.worker, block);
+        self.steps = stepped(&self.steps, word);
+        told
     }
 
-    #[tactic(auto, using(crate::proofs::Seats::set_twice))]
     fn give_read(&mut self, block: u32, cells: BlockCells) {
-        let at = self.table.hand_at(self.worker, block);
-        let found = self.table.word(at);
-        self.table.give_read(self.worker, block, cells);
-        self.steps = stepped(&self.steps, at, found);
+        let word = self.table.give_read(self.worker, block, cells);
+        self.steps = stepped(&self.steps, word);
     }
 
     #[tactic(auto, using(crate::proofs::Seats::set_twice))]
@@ -301,32 +246,24 @@ impl<'a, C: Course> Steps for PlainSeat<'a, C> {
         self.table.computed(self.worker, key, life);
     }
 
-    #[tactic(auto, using(crate::proofs::Seats::set_twice))]
     fn give_written(&mut self, key: Key, life: u32, block: u32, cells: BlockCells) {
-        let at = self.table.hand_at(self.worker, block);
-        let found = self.table.word(at);
-        self.table
+        let word = self
+            .table
             .give_written(self.worker, key, life, block, cells);
-        self.steps = stepped(&self.steps, at, found);
+        self.steps = stepped(&self.steps, word);
     }
 
-    #[tactic(auto, using(crate::proofs::Seats::set_twice))]
     fn give_struck(&mut self, key: Key, life: u32, block: u32, cells: BlockCells) {
-        let at = self.table.hand_at(self.worker, block);
-        let found = self.table.word(at);
-        self.table.give_struck(self.worker, key, life, block, cells);
-        self.steps = stepped(&self.steps, at, found);
+        let word = self.table.give_struck(self.worker, key, life, block, cells);
+        self.steps = stepped(&self.steps, word);
     }
 
-    #[tactic(auto, using(crate::proofs::Seats::set_twice))]
     fn stop(&mut self) {
-        let found = self.table.stop(self.worker);
-        self.steps = stepped(&self.steps, 1, found);
+        let word = self.table.stop(self.worker);
+        self.steps = stepped(&self.steps, word);
     }
 
-    ghost key_step = { λ s t row claimed did. did.0 };
-
-    ghost key_table = { λ s t row claimed did. record { same_setting = refl; same_lender = did.1; same_others = did.2 } };
+    ghost key_step = { λ s t row claimed did. let step = did.1 in (did.0, record { word = step.word; view_is = step.view_is; one_made = step.one_made; last_is = step.last_is; stepped = step.stepped; found = step.found; table = record { same_setting = step.table.same_setting; same_lender = step.table.same_lender; same_others = step.table.same_others; sure = step.table.sure } }) };
 
     ghost keys_are = { λ s. refl };
 

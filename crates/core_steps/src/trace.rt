@@ -1,9 +1,10 @@
 //! The steps that a seat has made. They have no bytes.
-use ghost_log::{Ghost, Gives};
+use crate::kinds::Touched;
+use ghost_value::{Ghost, Gives};
 use std::marker::Model;
 
 /// How many steps, the last word, and the last claim or look. No value of it is made.
-pub(crate) struct Steps;
+pub struct Steps;
 
 impl Model for Steps {
     ghost use Rattle.core_steps.specs.Seat.{Trace};
@@ -14,7 +15,7 @@ impl Model for Steps {
 }
 
 /// No step yet.
-pub(crate) struct NoStep;
+pub struct NoStep;
 
 impl Gives<(), Steps> for NoStep {
     ghost value = { λ _. record { made = 0; shown = (0, 0); last = (0, 0) } };
@@ -22,31 +23,29 @@ impl Gives<(), Steps> for NoStep {
 
 /// A step, and those before it.
 #[derive(Drop)]
-pub(crate) struct Step<'a> {
-    pub(crate) before: &'a Ghost<Steps>,
-    pub(crate) at: usize,
-    pub(crate) found: u64,
+pub struct Step<'a> {
+    pub before: &'a Ghost<Steps>,
+    pub word: Touched,
 }
 
-pub(crate) struct Stepped;
+pub struct Stepped;
 
 impl<'a> Gives<Step<'a>, Steps> for Stepped {
     ghost use Rattle.std.specs.Prelude.{◌+◌};
 
-    ghost value = { λ s. record { made = s.before.now.made + 1; shown = (s.at, s.found); last = s.before.now.last } };
+    ghost value = { λ s. record { made = s.before.now.made + 1; shown = (s.word.at, s.word.found); last = s.before.now.last } };
 }
 
 /// A claim or a look, and the steps before it.
 #[derive(Drop)]
-pub(crate) struct KeyStep<'a> {
-    pub(crate) before: &'a Ghost<Steps>,
-    pub(crate) row: u32,
-    pub(crate) at: usize,
-    pub(crate) found: u64,
+pub struct KeyStep<'a> {
+    pub before: &'a Ghost<Steps>,
+    pub row: u32,
+    pub word: Touched,
 }
 
 impl<'a> Gives<KeyStep<'a>, Steps> for Stepped {
     ghost use Rattle.std.specs.Prelude.{◌+◌};
 
-    ghost value = { λ s. record { made = s.before.now.made + 1; shown = (s.at, s.found); last = (s.row, s.found) } };
+    ghost value = { λ s. record { made = s.before.now.made + 1; shown = (s.word.at, s.word.found); last = (s.row, s.word.found) } };
 }

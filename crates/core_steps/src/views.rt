@@ -1,7 +1,7 @@
 //! What the workers know and hold. It has no bytes.
 use crate::kinds::{BlockKind, Kind};
 use core_state::{BlockCells, Course};
-use ghost_log::{Ghost, Gives};
+use ghost_value::{Ghost, Gives};
 use std::marker::{Model, PhantomData};
 
 /// The views of all workers. No value of it is made.
@@ -32,7 +32,7 @@ pub(crate) struct Stepped<C: Course> {
 
 impl<'a, C: Course> Gives<Stepping<'a>, Views> for Stepped<C> {
     ghost use Rattle.std.specs.Prelude.{slice_set};
-    ghost use Rattle.core_state.specs.Kinds.{after};
+    ghost use Rattle.core_state.specs.Events.{after};
     ghost use Rattle.core_steps.specs.Kinds.{event_of};
     ghost use Rattle.core_steps.specs.Table.{view_in};
 
@@ -52,7 +52,7 @@ pub(crate) struct BlockStepping<'a> {
 
 impl<'a, C: Course> Gives<BlockStepping<'a>, Views> for Stepped<C> {
     ghost use Rattle.std.specs.Prelude.{slice_set};
-    ghost use Rattle.core_state.specs.Kinds.{after};
+    ghost use Rattle.core_state.specs.Events.{after};
     ghost use Rattle.core_steps.specs.Kinds.{block_event};
     ghost use Rattle.core_steps.specs.Table.{view_in};
 
@@ -70,7 +70,7 @@ pub(crate) struct Computing<'a> {
 
 impl<'a, C: Course> Gives<Computing<'a>, Views> for Stepped<C> {
     ghost use Rattle.std.specs.Prelude.{slice_set};
-    ghost use Rattle.core_state.specs.Events.{after_computed};
+    ghost use Rattle.core_state.specs.Effects.{after_computed};
     ghost use Rattle.core_steps.specs.Table.{view_in};
 
     ghost value = { λ s. slice_set s.before.now s.worker (after_computed s.key s.life (view_in s.before.now s.worker)) };

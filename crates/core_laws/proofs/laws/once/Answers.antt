@@ -1,4 +1,4 @@
-use Rattle.core_laws.proofs.Holding.{of_tasks, spent_once, computed_once, replaced_once, root_replaced}
+use Rattle.core_laws.proofs.Holding.{of_tasks, from_one, spent_once, computed_once, replaced_once, root_replaced}
 use Rattle.core_laws.proofs.laws.once.Goals as goal
 
 pub returns-clause-tasks : goal.returns-clause-tasks
@@ -15,3 +15,6 @@ returns-clause-replaced g c = replaced_once g.C.Course.setting _ _ _ _ c.args.cl
 
 pub returns-clause-root : goal.returns-clause-root
 returns-clause-root g c = root_replaced g.C.Course.setting _ _ _ _ c.args.closed.now.meets
+
+pub returns-clause-lives : goal.returns-clause-lives
+returns-clause-lives g c k = from_one g.C.Course.setting _ _ _ _ c.args.closed.now.meets k

@@ -1,8 +1,14 @@
--- The new fields are the table after the step.
-use Rattle.std.proofs.Common.{sym, subst}
-use Rattle.core_steps.specs.Table.{IsSound, stepped_by}
+use Rattle.std.proofs.Common.{ap, refl, set}
+use Rattle.core_steps.specs.Kinds.{event_of}
+use Rattle.core_steps.specs.Table.{view_at}
+use Rattle.core_steps.proofs.Sounding.{quiet_touched}
+use Rattle.core_steps.proofs.TableSteps.{table_step}
 use Rattle.core_steps.proofs.plain.PlainTable.step.Goals as goal
 
-pub invariant_of-self : goal.invariant_of-self
-invariant_of-self g c = let e = g.C.Course.setting in
-    rw (c.of-views.ensures) (subst (λ p. IsSound e (stepped_by e p c.args.worker c.args.kind c.args.at c.args.found c.args.left)) (sym c.self.view_is) c.requires.sound)
+pub change-requires-clause-sound : goal.change-requires-clause-sound
+change-requires-clause-sound g c = quiet_touched g.C.Course.setting c.args.self.now c.args.worker c.requires.worker c.rows.ensures.sound c.args.kind c.args.word c.args.left c.requires.can c.requires.word c.requires.left c.requires.calm c.requires.quiet
+
+pub returns-clause-step : goal.returns-clause-step
+returns-clause-step g c = let p = c.args.self.now in let e = g.C.Course.setting in let w = c.args.word in rw (c.change.ensures.table)
+    (table_step e c.args.worker (event_of (view_at p c.args.worker) c.args.kind) w p _ c.requires.worker c.requires.can c.requires.word c.rows.ensures.sound
+    (quiet_touched e p c.args.worker c.requires.worker c.rows.ensures.sound c.args.kind w c.args.left c.requires.can c.requires.word c.requires.left c.requires.calm c.requires.quiet) (ap (set p.words w.at) c.requires.left) refl)

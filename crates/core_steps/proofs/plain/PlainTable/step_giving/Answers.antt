@@ -1,28 +1,16 @@
--- The new fields are the table with the block, and with what is recorded.
-use Rattle.std.proofs.Common.{◌≡◌, ◌<◌, ap, sym, subst, ◌∙◌, get_or, length, length-set, refl, Some}
-use Rattle.std.proofs.lemmas.List.{get_or_read_under}
-use Rattle.core_state.specs.Words.{place_of, turn}
-use Rattle.core_steps.specs.Table.{Plain, IsSound, entered, given_by, no_store}
-use Rattle.core_steps.proofs.BlocksGiven.{none_entered}
-use Rattle.core_steps.proofs.Changing.{any_store}
+use Rattle.std.proofs.Common.{ap, sym, ◌∙◌, get_or}
+use Rattle.core_state.specs.Outcome.{entries}
+use Rattle.core_steps.specs.Kinds.{block_event}
+use Rattle.core_steps.specs.Table.{view_at}
+use Rattle.core_steps.proofs.BlocksGiven.{given_step, sound_given}
 use Rattle.core_steps.proofs.plain.PlainTable.step_giving.Goals as goal
 
-pub invariant_of-self-in_default : goal.invariant_of-self-in_default
-invariant_of-self-in_default g c = let e = g.C.Course.setting in
-    let at = c.turn_place-at.ensures.place ∙ ap (λ (p : Plain). place_of p.shape (turn c.args.block)) (sym c.self.view_is) in
-    let low : c.turn_place-at.result < length c.self.inside.words.items = subst (λ (p : Plain). c.turn_place-at.result < length p.words) (sym c.self.view_is) c.turn_place-at.ensures.within in
-    let found = get_or_read_under c.self.inside.words.items c.turn_place-at.result (length c.self.inside.words.items) c.index.result.now 0 c.index.ensures low refl in
-    rw (c.of-views.ensures, found, at, length-set c.self.inside.blocks.items c.args.block (Some c.args.cells))
-    (subst (λ p. IsSound e (given_by e p c.args.worker c.args.kind c.args.block c.args.cells)) (sym c.self.view_is)
-    (none_entered e c.args.worker c.args.entry (given_by e c.args.self.now c.args.worker c.args.kind c.args.block c.args.cells) c.in_default.not-Some c.requires.sound))
+pub change_giving-requires-clause-sound : goal.change_giving-requires-clause-sound
+change_giving-requires-clause-sound g c = let p = c.args.self.now in let e = g.C.Course.setting in let s = c.rows.ensures.sound in let w = c.requires.word in let n = w.found_is ∙ ap (λ m. get_or p.words m 0) w.at_is in
+    let sound = sound_given e p c.args.worker c.requires.worker s c.args.kind c.args.block c.args.cells c.args.entry c.requires.gives c.requires.can (ap (entries e (block_event (view_at p c.args.worker) c.args.kind c.args.block c.args.cells)) (sym n) ∙ c.requires.entry) in
+    sound
 
-pub invariant_of-self : goal.invariant_of-self
-invariant_of-self g c = let e = g.C.Course.setting in
-    let at = c.turn_place-at.ensures.place ∙ ap (λ (p : Plain). place_of p.shape (turn c.args.block)) (sym c.self.view_is) in
-    let low : c.turn_place-at.result < length c.self.inside.words.items = subst (λ (p : Plain). c.turn_place-at.result < length p.words) (sym c.self.view_is) c.turn_place-at.ensures.within in
-    let found = get_or_read_under c.self.inside.words.items c.turn_place-at.result (length c.self.inside.words.items) c.index.result.now 0 c.index.ensures low refl in
-    let few : c.args.worker < length c.self.inside.stores.items = subst (λ (p : Plain). c.args.worker < length p.stores) (sym c.self.view_is) c.requires.worker in
-    let q : c.index_mut-in-Some.result.now ≡ get_or c.self.inside.stores.items c.args.worker no_store = c.index_mut-in-Some.ensures.value ∙ any_store c.self.inside.stores.items c.args.worker c.index_mut-in-Some.result.now few in
-    rw (c.of-views.ensures, found, at, length-set c.self.inside.blocks.items c.args.block (Some c.args.cells), c.note.ensures, q)
-    (subst (λ p. IsSound e (entered c.args.worker (Some c.in-Some.entry) (given_by e p c.args.worker c.args.kind c.args.block c.args.cells))) (sym c.self.view_is)
-    (subst (λ x. IsSound e (entered c.args.worker x (given_by e c.args.self.now c.args.worker c.args.kind c.args.block c.args.cells))) c.in-Some.is c.requires.sound))
+pub returns-clause-step : goal.returns-clause-step
+returns-clause-step g c = let p = c.args.self.now in let e = g.C.Course.setting in let s = c.rows.ensures.sound in let w = c.requires.word in let n = w.found_is ∙ ap (λ m. get_or p.words m 0) w.at_is in
+    let sound = sound_given e p c.args.worker c.requires.worker s c.args.kind c.args.block c.args.cells c.args.entry c.requires.gives c.requires.can (ap (entries e (block_event (view_at p c.args.worker) c.args.kind c.args.block c.args.cells)) (sym n) ∙ c.requires.entry) in
+    rw (c.change_giving.ensures.table) (given_step e p c.args.worker c.args.kind c.args.block c.args.cells c.args.entry c.args.word c.requires.gives c.requires.worker c.requires.can w s sound)

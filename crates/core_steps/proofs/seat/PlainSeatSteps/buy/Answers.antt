@@ -1,0 +1,7 @@
+use Rattle.std.proofs.Common.{refl}
+use Rattle.core_steps.proofs.Seats.{seat_step}
+use Rattle.core_steps.proofs.seat.PlainSeatSteps.buy.Goals as goal
+
+pub returns-clause-step : goal.returns-clause-step
+returns-clause-step g c = let step = c.buy-word.ensures.step in rw (c.stepped.ensures)
+    (seat_step _ _ _ _ _ _ _ _ _ c.args.self.now _ c.args.self.now.worker c.buy-word.result c.args.self.now.table.now _ step refl refl refl refl refl refl refl refl refl step.words)
