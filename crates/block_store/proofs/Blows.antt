@@ -1,14 +1,14 @@
 -- What the turn of a block leaves of a strike that the view makes next.
-use Rattle.std.proofs.Common.{◌≡◌, ◌∙◌, ℕ, ◌<◌, ⊎_elim, Bool, true, false, cond, eqb, nat_lt, nat_eq, List, [], ◌∷◌, length, ap, sym, subst, refl, arith}
+use Rattle.std.proofs.Common.{◌≡◌, ◌∙◌, ℕ, ◌<◌, ⊎_elim, Bool, true, false, cond, eqb, nat_lt, nat_eq, List, [], ◌∷◌, ap, sym, subst, refl, arith}
 use mathlib.Core.Option.{some, none, some-ne-none}
 use Rattle.std.proofs.lemmas.Bool.{eqb-true, lt-ltb}
-use Rattle.core_state.proofs.Cases.{two_tells}
-use Rattle.core_state.proofs.PassingPoints.{left_none}
-use Rattle.core_state.proofs.Striking.{next_strike_is}
-use Rattle.core_state.specs.Counts.{carries, job_of}
-use Rattle.core_state.specs.Events.{is_good}
+use Rattle.core_state.proofs.Base.Counting.{two_tells}
+use Rattle.core_state.proofs.Plan.Passes.{left_none}
+use Rattle.core_state.proofs.Strike.Next.{next_strike_is}
+use Rattle.core_state.specs.Tests.{carries, job_of}
+use Rattle.core_state.specs.Effects.{is_good}
 use Rattle.core_state.specs.Graph.{Graph, Plan, Setting}
-use Rattle.core_state.specs.Kinds.{after, Event as event}
+use Rattle.core_state.specs.Events.{after, Event as event}
 use Rattle.core_state.specs.Views.{is_finished, none_left, on_top, passing, settle, strike_at, strike_next, strike_of, top_items, unfinished}
 use Rattle.core_state.specs.declared.block.BlockCells.{BlockCells}
 use Rattle.core_state.specs.declared.job.Job.{Job}
@@ -18,7 +18,7 @@ use Rattle.core_state.specs.declared.views.Item.TheVariants as item
 use Rattle.core_state.specs.declared.views.Stack.{Stack}
 use Rattle.core_state.specs.declared.views.View.{View}
 use Rattle.graph_model.specs.declared.plan.Point.TheVariants as point
-use Rattle.block_store.specs.Turned.{BlowLeaves, IsBusy, IsTaken, StrikesNext, blow_of, strikes_of, struck_home}
+use Rattle.block_store.specs.Turned.{StrikesNext, blow_of, strikes_of}
 use Rattle.block_store.specs.declared.answers.Blow.{Blow}
 use Rattle.block_store.specs.declared.answers.Blow.TheVariants as blow
 
@@ -98,36 +98,3 @@ module _ (e : Setting) (v w : View) (b : ℕ) where
       by : (q : Bool) → strikes_of (cond q blow.Landed blow.Missed) n v.strikes ≡ n ∷ v.strikes
       by true = refl
       by false = refl
-
--- what a whole strike leaves, from what its two steps do
-pub blow_leaves : (e f : Setting) (b k l version i n : ℕ) (v mid w : View) (x : BlockCells) (answer : Blow) → f ≡ e → i ≡ 0 → mid ≡ after e (event.take_turn b x) i v → length x.cells ≡ e.graph.cells b → (x.struck ≡ false → 0 < x.tag → x.cells ≡ e.graph.value (e.graph.writer b x.tag)) → answer ≡ blow_of version x → w ≡ after f (struck_home k l b answer x) n mid → BlowLeaves e b v w n k l version answer
-blow_leaves e f b k l version i n v mid w x answer same taken h cells value told view = leaves answer told begun
-  where
-    now : Setting → View → Type 0
-    now g u = w ≡ after g (struck_home k l b answer x) n u
-
-    first : mid ≡ after e (event.take_turn b x) 0 v
-    first = let P : ℕ → Type 0 = λ j. mid ≡ after e (event.take_turn b x) j v in subst P taken h
-
-    begun : w ≡ after e (struck_home k l b answer x) n (after e (event.take_turn b x) 0 v)
-    begun = subst (now e) first (subst (λ (g : Setting). now g mid) same view)
-
-    had : IsTaken e (after e (event.take_turn b x) 0 v) b x
-    had = record { hand = record { others = v.hands; hands_are = refl }; cells = cells; value = value }
-
-    landed : (q : Bool) → blow.Landed ≡ cond q blow.Landed blow.Missed → q ≡ true
-    landed true t = refl
-    landed false t = absurd cc
-
-    missed_it : (q : Bool) → blow.Missed ≡ cond q blow.Landed blow.Missed → q ≡ false
-    missed_it true t = absurd cc
-    missed_it false t = refl
-
-    never : (q : Bool) → blow.Busy ≡ cond q blow.Landed blow.Missed → IsBusy e b v w n
-    never true t = absurd cc
-    never false t = absurd cc
-
-    leaves : (z : Blow) → z ≡ cond (is_good version x) blow.Landed blow.Missed → w ≡ after e (struck_home k l b z x) n (after e (event.take_turn b x) 0 v) → BlowLeaves e b v w n k l version z
-    leaves blow.Landed t u = record { was = x; is_taken = had; is_told = landed (is_good version x) t; view_is = u }
-    leaves blow.Missed t u = record { was = x; is_taken = had; is_told = missed_it (is_good version x) t; view_is = u }
-    leaves blow.Busy t u = never (is_good version x) t

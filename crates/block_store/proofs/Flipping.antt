@@ -1,7 +1,7 @@
 -- A list of cells of which the first ones were complemented.
 use Rattle.std.proofs.Common.{◌≡◌, ◌∙◌, ℕ, zero, suc, ℤ, pos, ◌+◌, ◌<◌, ◌≤◌, List, [], ◌∷◌, length, map, slice_index_or, slice_set, sym, ap, subst, refl, add-one, arith, take, drop, ◌++◌}
 use Rattle.std.proofs.Math.Seq.{take-append_seam}
-use Rattle.core_state.specs.Calls.{flipped}
+use Rattle.core_state.specs.Guards.{flipped}
 
 abbrev pub flipped_to : ℕ → List ℤ → List ℤ
 flipped_to zero xs = xs

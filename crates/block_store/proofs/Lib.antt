@@ -1,3 +1,4 @@
 mod Blows
 mod Flipping
+mod Halves
 mod Turning

@@ -1,10 +1,10 @@
 -- What the turn of a block leaves of the view's work.
 use Rattle.std.proofs.Common.{◌≡◌, ◌∙◌, ℕ, ◌+◌, Bool, true, false, cond, eqb, eq-eqb, nat_lt, ◌&&◌, List, [], ◌∷◌, ap, sym, subst, refl}
 use Rattle.std.proofs.lemmas.Bool.{lt-ltb}
-use Rattle.core_state.specs.Calls.{AtWork}
-use Rattle.core_state.specs.Events.{is_good, found_in, read_items, missed_by}
+use Rattle.core_state.specs.Guards.{AtWork}
+use Rattle.core_state.specs.Effects.{is_good, found_in, read_items, missed_by}
 use Rattle.core_state.specs.Graph.{Setting}
-use Rattle.core_state.specs.Kinds.{after, Event as event}
+use Rattle.core_state.specs.Events.{after, Event as event}
 use Rattle.core_state.specs.Views.{on_top, settle, strike_next, unfinished}
 use Rattle.core_state.specs.declared.block.BlockCells.{BlockCells}
 use Rattle.core_state.specs.declared.views.Item.{Item}

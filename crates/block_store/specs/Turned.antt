@@ -1,14 +1,15 @@
 -- What the turn of a block asks of the view, and what it answers and leaves.
-use Rattle.std.specs.Prelude.{◌≡◌, ℕ, ℤ, ◌+◌, ◌<◌, Bool, true, false, cond, List, ◌∷◌, length, map}
-use Rattle.core_state.specs.Calls.{AtWork, InHand, MakesStrike, flipped}
+use Rattle.std.specs.Prelude.{◌≡◌, ℕ, ℤ, ◌+◌, ◌<◌, Bool, true, false, cond, List, ◌∷◌, Option, Some, None, length, map}
+use Rattle.core_state.specs.Guards.{AtWork, InHand, MakesStrike, flipped}
 use Rattle.core_state.specs.Change.{no_cells}
-use Rattle.core_state.specs.Events.{found_in, is_good}
+use Rattle.core_state.specs.Effects.{found_in, is_good}
 use Rattle.core_state.specs.Graph.{Setting}
-use Rattle.core_state.specs.Kinds.{after, Event, Event as event}
+use Rattle.core_state.specs.Events.{Event, Event as event}
 use Rattle.core_state.specs.declared.block.BlockCells.{BlockCells}
 use Rattle.core_state.specs.declared.views.Item.{Item}
 use Rattle.core_state.specs.declared.views.Item.TheVariants as item
 use Rattle.core_state.specs.declared.views.View.{View}
+use Rattle.core_steps.specs.Seat.{IsStep}
 use Rattle.graph_model.specs.declared.record.Cause.TheVariants as cause
 use Rattle.graph_model.specs.declared.plan.Target.TheVariants as target
 use Rattle.block_store.specs.declared.answers.Blow.{Blow}
@@ -81,47 +82,38 @@ abbrev pub struck_home : ℕ → ℕ → ℕ → Blow → BlockCells → Event
 struck_home key life b blow.Landed x = event.give_struck key life b x (spoiled x)
 struck_home key life b _ x = event.give_read b x
 
-module _ (e : Setting) (b : ℕ) (v w : View) (found : ℕ) where
-  -- the block wasn't to be had: its turn word, where it was looked at last, was 1
-  pub record IsBusy : Type 0 where
-    pub taken : found ≡ 1
-    pub view_is : w ≡ after e (event.take_turn b no_cells) found v
+-- the event by which a reading brings the block home: none where the block wasn't to be had
+abbrev pub read_home : ℕ → Read → Option (BlockCells → Event)
+read_home b read.Busy = None
+read_home b _ = Some (event.give_read b)
 
-  -- the block was taken, and went home by this event
-  pub record HasTurned (home : BlockCells → Event) (told : BlockCells → Type 0) : Type 0 where
+-- the event by which a writing brings the block home
+abbrev pub put_home : ℕ → ℕ → ℕ → ℕ → List ℤ → Put → Option (BlockCells → Event)
+put_home key life b version cells put.Busy = None
+put_home key life b version cells put.Done = Some (λ x. event.give_written key life b x (filled version cells))
+
+-- the event by which a strike brings the block home
+abbrev pub blow_home : ℕ → ℕ → ℕ → Blow → Option (BlockCells → Event)
+blow_home key life b blow.Busy = None
+blow_home key life b answer = Some (struck_home key life b answer)
+
+module _ {S : Type 0} (setting : S → Setting) (view : S → View) (made : S → ℕ) (last shown : S → ℕ × ℕ) (happened : S → Event → ℕ → S → Type 0) (lender : S → List ℕ) (others : S → List View) (b : ℕ) where
+  -- the block wasn't to be had: the seat made one step, on the block's turn word, which was 1
+  pub record IsBusy (s t : S) : Type 0 where
+    pub step : IsStep setting view made last shown happened lender others (event.take_turn b no_cells) s t
+    pub taken : (shown t).1 ≡ 1
+
+  -- the seat made two steps: it took the block, by what the block was it answers this, and with this event it brought the block home
+  pub record HasTurned {A : Type 0} (answer : A) (told : BlockCells → A) (home : BlockCells → Event) (s t : S) : Type 0 where
+    pub middle : S
     pub was : BlockCells
-    pub is_taken : IsTaken e (after e (event.take_turn b was) 0 v) b was
-    pub is_told : told was
-    pub view_is : w ≡ after e (home was) found (after e (event.take_turn b was) 0 v)
+    pub takes : IsStep setting view made last shown happened lender others (event.take_turn b was) s middle
+    pub free : (shown middle).1 ≡ 0
+    pub is_taken : IsTaken (setting middle) (view middle) b was
+    pub is_told : answer ≡ told was
+    pub goes_home : IsStep setting view made last shown happened lender others (home was) middle t
 
-  -- what a whole reading leaves, by its answer
-  abbrev pub ReadLeaves : ℕ → Read → Type 0
-  ReadLeaves version read.Good = HasTurned (event.give_read b) (λ x. read_of version x ≡ read.Good)
-  ReadLeaves version (read.Bad other) = HasTurned (event.give_read b) (λ x. read_of version x ≡ read.Bad other)
-  ReadLeaves version read.Busy = IsBusy
-
-  -- what a whole writing leaves, by its answer
-  abbrev pub PutLeaves : ℕ → ℕ → ℕ → List ℤ → Put → Type 0
-  PutLeaves key life version cells put.Done = HasTurned (λ x. event.give_written key life b x (filled version cells)) (λ x. Unit {0})
-  PutLeaves key life version cells put.Busy = IsBusy
-
-  -- what a whole strike leaves, by its answer
-  abbrev pub BlowLeaves : ℕ → ℕ → ℕ → Blow → Type 0
-  BlowLeaves key life version blow.Landed = HasTurned (λ x. event.give_struck key life b x (spoiled x)) (λ x. is_good version x ≡ true)
-  BlowLeaves key life version blow.Missed = HasTurned (event.give_read b) (λ x. is_good version x ≡ false)
-  BlowLeaves key life version blow.Busy = IsBusy
-
--- how many steps a whole reading makes
-abbrev pub read_steps : Read → ℕ
-read_steps read.Busy = 1
-read_steps _ = 2
-
--- how many steps a whole writing makes
-abbrev pub put_steps : Put → ℕ
-put_steps put.Busy = 1
-put_steps put.Done = 2
-
--- how many steps a whole strike makes
-abbrev pub blow_steps : Blow → ℕ
-blow_steps blow.Busy = 1
-blow_steps _ = 2
+  -- what a whole call on a block does, by the event that brings the block home, or none
+  abbrev pub Turns : {A : Type 0} → A → (BlockCells → A) → Option (BlockCells → Event) → S → S → Type 0
+  Turns answer told None s t = IsBusy s t
+  Turns answer told (Some home) s t = HasTurned answer told home s t

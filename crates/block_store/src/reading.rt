@@ -1,11 +1,10 @@
 //! Reading a version of a block.
 ghost use Rattle.std.specs.Prelude.{◌≡◌, ◌≤◌, ◌<◌, ◌+◌, length};
-ghost use Rattle.block_store.specs.Turned.{IsTaken, ReadLeaves, ReadsNext, read_item, read_of, read_steps};
-ghost use Rattle.core_state.specs.Calls.{AtWork, CanTakeTurn};
-ghost use Rattle.core_state.specs.Kinds.{after, Event as event};
-ghost use Rattle.core_state.specs.Words.{turn};
+ghost use Rattle.block_store.specs.Turned.{IsTaken, ReadsNext, Turns, read_home, read_item, read_of};
+ghost use Rattle.core_state.specs.Guards.{AtWork, CanTakeTurn};
+ghost use Rattle.core_state.specs.Events.{Event as event};
 ghost use Rattle.core_state.specs.declared.views.Item.{Item};
-ghost use Rattle.core_steps.specs.Seat.{IsSameTable, Shows};
+ghost use Rattle.core_steps.specs.Seat.{IsStep};
 
 use crate::answers::Read;
 use core_state::BlockCells;
@@ -48,12 +47,8 @@ pub fn end_read<T: Steps>(
     ensures value { result ≡ Read.Good → 0 < version → into.new ≡ (T.setting steps.old).graph.value ((T.setting steps.old).graph.writer block version) }
     ensures work { (x : Item) → AtWork (T.view steps.old) x → AtWork (T.view steps.new) (read_item block version result x) }
 
-    ensures word { Shows (T.setting steps.old) (turn block) (T.shown steps.new) }
-    ensures view { T.view steps.new ≡ after (T.setting steps.old) (event.give_read block taken) (T.shown steps.new).1 (T.view steps.old) }
-    ensures made { T.made steps.new ≡ T.made steps.old + 1 }
+    ensures step { IsStep T.setting T.view T.made T.last T.shown T.happened T.lender T.others (event.give_read block taken) steps.old steps.new }
     ensures room { T.spare steps.old ≤ T.spare steps.new + 1 }
-    ensures last { T.last steps.new ≡ T.last steps.old }
-    ensures table { IsSameTable T.setting T.lender T.others steps.old steps.new }
 {
     let read = told(&taken, version);
     if let Read::Good = read {
@@ -73,12 +68,8 @@ pub fn read_into<T: Steps>(steps: &mut T, block: u32, version: u32, into: &mut [
     ensures value { result ≡ Read.Good → 0 < version → into.new ≡ (T.setting steps.old).graph.value ((T.setting steps.old).graph.writer block version) }
     ensures work { (x : Item) → AtWork (T.view steps.old) x → AtWork (T.view steps.new) (read_item block version result x) }
 
-    ensures word { Shows (T.setting steps.old) (turn block) (T.shown steps.new) }
-    ensures view { ReadLeaves (T.setting steps.old) block (T.view steps.old) (T.view steps.new) (T.shown steps.new).1 version result }
-    ensures made { T.made steps.new ≡ T.made steps.old + read_steps result }
+    ensures step { Turns T.setting T.view T.made T.last T.shown T.happened T.lender T.others block result (read_of version) (read_home block result) steps.old steps.new }
     ensures room { T.spare steps.old ≤ T.spare steps.new + 2 }
-    ensures last { T.last steps.new ≡ T.last steps.old }
-    ensures table { IsSameTable T.setting T.lender T.others steps.old steps.new }
 {
     match steps.take_turn(block) {
         None => Read::Busy,

@@ -1,12 +1,10 @@
 //! Striking a task's version of its block.
 ghost use Rattle.std.specs.Prelude.{◌≡◌, ◌≤◌, ◌<◌, ◌+◌, ℕ, ◌∷◌};
 ghost use mathlib.Core.Option.{some};
-ghost use Rattle.block_store.specs.Turned.{BlowLeaves, IsTaken, StrikesNext, blow_of, blow_steps, spoiled, strikes_of, struck_home};
-ghost use Rattle.core_state.specs.Calls.{CanTakeTurn, flipped};
-ghost use Rattle.core_state.specs.Kinds.{after};
+ghost use Rattle.block_store.specs.Turned.{IsTaken, StrikesNext, Turns, blow_home, blow_of, spoiled, strikes_of, struck_home};
+ghost use Rattle.core_state.specs.Guards.{CanTakeTurn, flipped};
 ghost use Rattle.core_state.specs.Views.{strike_next};
-ghost use Rattle.core_state.specs.Words.{turn};
-ghost use Rattle.core_steps.specs.Seat.{IsSameTable, Shows};
+ghost use Rattle.core_steps.specs.Seat.{IsStep};
 
 use crate::answers::Blow;
 use core_state::BlockCells;
@@ -51,12 +49,8 @@ pub fn end_strike<T: Steps>(
     ensures told { result ≡ blow_of version taken }
     ensures strike { (n : ℕ) → strike_next (T.setting steps.old).graph (T.setting steps.old).plan (T.view steps.old) ≡ some n → (T.view steps.new).strikes ≡ n ∷ (T.view steps.old).strikes }
 
-    ensures word { Shows (T.setting steps.old) (turn block) (T.shown steps.new) }
-    ensures view { T.view steps.new ≡ after (T.setting steps.old) (struck_home key.0 life block result taken) (T.shown steps.new).1 (T.view steps.old) }
-    ensures made { T.made steps.new ≡ T.made steps.old + 1 }
+    ensures step { IsStep T.setting T.view T.made T.last T.shown T.happened T.lender T.others (struck_home key.0 life block result taken) steps.old steps.new }
     ensures room { T.spare steps.old ≤ T.spare steps.new + 1 }
-    ensures last { T.last steps.new ≡ T.last steps.old }
-    ensures table { IsSameTable T.setting T.lender T.others steps.old steps.new }
 {
     if taken.tag != version || taken.struck {
         steps.give_read(block, taken);
@@ -76,12 +70,8 @@ pub fn strike<T: Steps>(steps: &mut T, key: Key, life: u32, block: u32, version:
 
     ensures strike { (n : ℕ) → strike_next (T.setting steps.old).graph (T.setting steps.old).plan (T.view steps.old) ≡ some n → (T.view steps.new).strikes ≡ strikes_of result n (T.view steps.old).strikes }
 
-    ensures word { Shows (T.setting steps.old) (turn block) (T.shown steps.new) }
-    ensures view { BlowLeaves (T.setting steps.old) block (T.view steps.old) (T.view steps.new) (T.shown steps.new).1 key.0 life version result }
-    ensures made { T.made steps.new ≡ T.made steps.old + blow_steps result }
+    ensures step { Turns T.setting T.view T.made T.last T.shown T.happened T.lender T.others block result (blow_of version) (blow_home key.0 life block result) steps.old steps.new }
     ensures room { T.spare steps.old ≤ T.spare steps.new + 2 }
-    ensures last { T.last steps.new ≡ T.last steps.old }
-    ensures table { IsSameTable T.setting T.lender T.others steps.old steps.new }
 {
     match steps.take_turn(block) {
         None => Blow::Busy,

@@ -1,10 +1,9 @@
 //! Writing a task's value to its block.
 ghost use Rattle.std.specs.Prelude.{◌≡◌, ◌≤◌, ◌+◌, length};
-ghost use Rattle.block_store.specs.Turned.{IsTaken, PutLeaves, WritesNext, filled, put_steps};
-ghost use Rattle.core_state.specs.Calls.{CanTakeTurn};
-ghost use Rattle.core_state.specs.Kinds.{after, Event as event};
-ghost use Rattle.core_state.specs.Words.{turn};
-ghost use Rattle.core_steps.specs.Seat.{IsSameTable, Shows};
+ghost use Rattle.block_store.specs.Turned.{IsTaken, Turns, WritesNext, filled, put_home};
+ghost use Rattle.core_state.specs.Guards.{CanTakeTurn};
+ghost use Rattle.core_state.specs.Events.{Event as event};
+ghost use Rattle.core_steps.specs.Seat.{IsStep};
 
 use crate::answers::Put;
 use core_state::BlockCells;
@@ -42,12 +41,8 @@ pub fn end_write<T: Steps>(
     requires room { 1 ≤ T.spare steps.old }
 
     ensures told { result ≡ Put.Done }
-    ensures word { Shows (T.setting steps.old) (turn block) (T.shown steps.new) }
-    ensures view { T.view steps.new ≡ after (T.setting steps.old) (event.give_written key.0 life block taken (filled version from.now)) (T.shown steps.new).1 (T.view steps.old) }
-    ensures made { T.made steps.new ≡ T.made steps.old + 1 }
+    ensures step { IsStep T.setting T.view T.made T.last T.shown T.happened T.lender T.others (event.give_written key.0 life block taken (filled version from.now)) steps.old steps.new }
     ensures room { T.spare steps.old ≤ T.spare steps.new + 1 }
-    ensures last { T.last steps.new ≡ T.last steps.old }
-    ensures table { IsSameTable T.setting T.lender T.others steps.old steps.new }
 {
     let written = fill(taken, version, from);
     steps.give_written(key, life, block, written);
@@ -69,12 +64,8 @@ pub fn write_from<T: Steps>(
     requires cells { length from.now ≡ (T.setting steps.old).graph.cells block }
     requires room { 2 ≤ T.spare steps.old }
 
-    ensures word { Shows (T.setting steps.old) (turn block) (T.shown steps.new) }
-    ensures view { PutLeaves (T.setting steps.old) block (T.view steps.old) (T.view steps.new) (T.shown steps.new).1 key.0 life version from.now result }
-    ensures made { T.made steps.new ≡ T.made steps.old + put_steps result }
+    ensures step { Turns T.setting T.view T.made T.last T.shown T.happened T.lender T.others block result (λ x. Put.Done) (put_home key.0 life block version from.now result) steps.old steps.new }
     ensures room { T.spare steps.old ≤ T.spare steps.new + 2 }
-    ensures last { T.last steps.new ≡ T.last steps.old }
-    ensures table { IsSameTable T.setting T.lender T.others steps.old steps.new }
 {
     match steps.take_turn(block) {
         None => Put::Busy,

@@ -3,14 +3,14 @@ use Rattle.std.proofs.Common.{◌≡◌, ℕ, ◌+◌, ◌-◌, ◌<◌, ◌≤�
 use Rattle.std.specs.Int.{bit_at}
 use Rattle.graph_model.specs.Graph.{Graph as TaskGraph}
 use Rattle.core_state.specs.Asked.{IsCoreKey}
-use Rattle.core_state.specs.Calls.{CanRegister, CanSpend}
-use Rattle.core_state.specs.Calls.Registers.{reentering as registers}
-use Rattle.core_state.specs.Calls.Spends.{reentering as spends}
+use Rattle.core_state.specs.Guards.{CanRegister, CanSpend}
+use Rattle.core_state.specs.Guards.Registers.{reentering as registers}
+use Rattle.core_state.specs.Guards.Spends.{reentering as spends}
 use Rattle.core_state.specs.Counts.{known_key}
-use Rattle.core_state.specs.Events.{all_ports, registered_of, told_of}
-use Rattle.core_state.specs.Graph.{Graph, Setting}
-use Rattle.core_state.specs.Kinds.{after}
-use Rattle.core_state.specs.Kinds.Event.{load_descriptor, register, spend}
+use Rattle.core_state.specs.Effects.{all_ports, registered_of, told_of}
+use Rattle.core_state.specs.Graph.{Graph, Lawful, Setting, Successor}
+use Rattle.core_state.specs.Events.{after}
+use Rattle.core_state.specs.Events.Event.{load_descriptor, look, register, spend}
 use Rattle.core_state.specs.Lines.{Line, HasLines, of, flat, entered_lines, registered_lines, told_lines}
 use Rattle.core_state.specs.Packed.{descriptor_of}
 use Rattle.core_state.specs.Words.{life_of, mark_of}
@@ -23,11 +23,13 @@ use Rattle.graph_model.specs.declared.key.Key.{Key}
 use Rattle.core_state.specs.declared.views.Item.TheVariants as item
 use Rattle.core_state.specs.declared.views.View.{View}
 use Rattle.graph_model.specs.declared.record.Cause.TheVariants as cause
-use Rattle.core_state.proofs.AfterLines.{line_stands, loaded_successor, reentered_registers, reentered_spends}
-use Rattle.core_state.proofs.Bits.{low_bits}
-use Rattle.core_state.proofs.Learning.{register_closes}
-use Rattle.core_state.proofs.PortLists.{ports_onward}
-use Rattle.core_state.proofs.TopLines.{at_work}
+use Rattle.core_state.proofs.Lines.After.{line_stands, loaded_successor, reentered_registers, reentered_spends}
+use Rattle.core_state.proofs.Base.Bits.{low_bits}
+use Rattle.core_state.proofs.Lines.Learns.{register_closes}
+use Rattle.core_state.proofs.Lines.Ports.{ports_onward}
+use Rattle.core_state.proofs.Lines.Top.{at_work, first_strike}
+use Rattle.key_table.specs.Seeking.{Seeking, next_row}
+use Rattle.recovery.specs.Happening.{first_search, way_event}
 use Rattle.recovery.specs.Memory.{KnowsKey}
 use Rattle.recovery.specs.Serving.{IsPort}
 use Rattle.recovery.specs.Reentering.{port_lines, reached_lines, FitsWay, IsAbout, IsPortWork, IsTold, MaySpend, ReachedTells, Reenters}
@@ -90,6 +92,8 @@ may_spend e v q r k place knows may = subst (λ m. CanSpend e v r m place) (sym 
   row = row_known e v r k knows;
   edge = let p = may.task in let l = may.work.life in let top = may.work.top in
       spends p l q (behind e.graph p q) (at_work v (item.Reenter p l (q ∷ behind e.graph p q)) top.below (port_top e v p l q top.below may.port.low top.lines_are)) may.port.low may.port.task_is may.port.place_is may.closed;
+  order = let p = may.task in let l = may.work.life in let top = may.work.top in
+      record { no_strike = first_strike e.graph e.plan v (item.Reenter p l (q ∷ behind e.graph p q)) top.below (port_top e v p l q top.below may.port.low top.lines_are) };
 })
 
 module _ (e : Setting) (v : View) (p q r at : ℕ) (low : q < e.graph.ports p) (knows : KnowsKey e v r p) where
@@ -175,3 +179,15 @@ pub tells_about : (g : TaskGraph) (e : Setting) (w : View) (told : Reached) (row
 tells_about g e w reached.Going row key about is_key knows = tt
 tells_about g e w (reached.Last r k l) row key about is_key knows = told_known g e w r row k key about.0 about.1 is_key knows
 tells_about g e w (reached.Mark r k l c) row key about is_key knows = told_known g e w r row k key about.0 about.1 is_key knows
+
+-- The event of a step on a port, by the way to the successor.
+module _ (e : Setting) (v : View) (r k q : ℕ) (here : Way) where
+  pub start_event : (s : Seeking) (successor rows : ℕ) → here ≡ way.Start → s ≡ first_search successor rows → rows ≡ e.shape.rows → (e.graph.succ k q).task ≡ successor → look (next_row s) ≡ way_event e v r k q here
+  start_event s successor rows is begins all task = ap (λ (x : Seeking). look (next_row x)) (begins ∙ ap (first_search successor) all ∙ ap (λ m. first_search m e.shape.rows) (sym task)) ∙ ap (way_event e v r k q) (sym is)
+
+  pub spend_event : (at successor place : ℕ) → here ≡ way.Spend at → e.graph.succ k q ≡ record { task = successor; place = place } → spend at (known_key at v) place ≡ way_event e v r k q here
+  spend_event at successor place is there = ap (λ (x : Successor). spend at (known_key at v) x.place) (sym there) ∙ ap (way_event e v r k q) (sym is)
+
+-- a port's place serves a predecessor
+pub place_low : (g : Graph) (p q successor place : ℕ) → Lawful g → q < g.ports p → g.succ p q ≡ record { task = successor; place = place } → place < 40
+place_low g p q successor place laws low is = let a = (laws.forth p q low).0 in let b = laws.few_places (g.succ p q).task in let c : (g.succ p q).place ≡ place = ap (λ (x : Successor). x.place) is in omega (arith, a, b, c)

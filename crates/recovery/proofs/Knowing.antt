@@ -1,14 +1,14 @@
 -- What a view knows of a row, in the words of calls and events, and that it goes on knowing it.
 use Rattle.std.proofs.Common.{◌≡◌, ℕ, ◌+◌, ◌-◌, ◌<◌, false, arith, sym, ◌∙◌, subst, Some}
-use Rattle.core_state.specs.Calls.{KnowsRow}
+use Rattle.core_state.specs.Guards.{KnowsRow}
 use Rattle.core_state.specs.Counts.{word_in, known_word, known_key, knows_row}
 use Rattle.core_state.specs.Graph.{Setting}
-use Rattle.core_state.specs.Kinds.{Event, after}
+use Rattle.core_state.specs.Events.{Event, after}
 use Rattle.core_state.specs.Outcome.{strikes_left, hands_left}
 use Rattle.core_state.specs.declared.views.View.{View}
-use Rattle.core_state.proofs.Claiming.{word_known}
-use Rattle.core_state.proofs.Outcomes.{leaves}
-use Rattle.core_state.proofs.Remembered.{names_row, right_apart, IsRight, word_stays, facts_grow}
+use Rattle.core_state.proofs.Row.View.{word_known}
+use Rattle.core_state.proofs.Lines.Outcomes.{leaves}
+use Rattle.core_state.proofs.Lines.Remembers.{names_row, right_apart, IsRight, word_stays, facts_grow}
 use Rattle.core_steps.specs.Seat.{known_of}
 use Rattle.core_steps.proofs.Telling.{number_of, key_in-suc}
 use Rattle.recovery.specs.Memory.{KnowsKey, Remembers, SameHands}

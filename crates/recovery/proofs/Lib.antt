@@ -1,7 +1,10 @@
+pub mod Ending
 pub mod Entering
 pub mod Knowing
+pub mod Noting
 pub mod Paying
 pub mod Phases
 pub mod Renewing
+pub mod Resting
 pub mod Seeking
 pub mod Settings

@@ -1,18 +1,21 @@
 -- What the steps for a job that is owed ask, and what they leave of the lines.
 use Rattle.std.proofs.Common.{◌≡◌, ◌≢◌, ℕ, ◌<◌, Bool, true, false, cond, List, ◌∷◌, arith, sym, ap, refl, ◌∙◌, subst}
-use Rattle.core_state.specs.Calls.{CanBuy, CanPost, AtWork}
+use Rattle.core_state.specs.Guards.{CanBuy, CanPost, AtWork}
 use Rattle.core_state.specs.Counts.{known_key}
 use Rattle.core_state.specs.Graph.{Setting}
-use Rattle.core_state.specs.Kinds.{after}
-use Rattle.core_state.specs.Kinds.Event.{post, buy}
+use Rattle.core_state.specs.Events.{after}
+use Rattle.core_state.specs.Events.Event.{post, buy}
 use Rattle.core_state.specs.Lines.{Line, HasLines, of, credit, flat, begins, came_lines}
+use Rattle.core_state.specs.Sure.{IsFresh}
 use Rattle.core_state.specs.declared.job.Job.{Job}
 use Rattle.core_state.specs.declared.views.Item.TheVariants as item
 use Rattle.core_state.specs.declared.views.View.{View}
-use Rattle.core_state.proofs.AfterLines.{line_stands, buys, posts, came_none, came_some}
-use Rattle.core_state.proofs.LineCounts as counts
-use Rattle.core_state.proofs.TopLines.{at_work}
+use Rattle.core_state.proofs.Lines.After.{line_stands, buys, posts, came_none, came_some}
+use Rattle.core_state.proofs.Lines.Counts as counts
+use Rattle.core_state.proofs.Lines.Top.{at_work}
+use Rattle.recovery.specs.Happening.{owe_event}
 use Rattle.recovery.specs.Memory.{KnowsKey}
+use Rattle.recovery.specs.declared.owe.Owe.{Owe}
 use Rattle.recovery.proofs.Knowing.{row_here, known_is}
 
 -- a credit that was not bought, and one that was
@@ -21,6 +24,17 @@ unspent bought n is not_yet = is ∙ ap (λ (b : Bool). cond b 1 0) not_yet
 
 pub one_spare : (bought : Bool) (n : ℕ) → n ≡ cond bought 1 0 → bought ≡ true → 0 < n
 one_spare bought n is done = let a : n ≡ 1 = is ∙ ap (λ (b : Bool). cond b 1 0) done in omega (arith, a)
+
+-- the event, by whether a credit was bought
+pub owe_buys : (v : View) (o : Owe) → o.bought ≡ false → buy ≡ owe_event v o
+owe_buys v o not_yet = ap (λ (b : Bool). cond b (post o.row o.job (known_key o.row v) o.life) buy) (sym not_yet)
+
+pub owe_posts : (v : View) (o : Owe) → o.bought ≡ true → post o.row o.job (known_key o.row v) o.life ≡ owe_event v o
+owe_posts v o done = ap (λ (b : Bool). cond b (post o.row o.job (known_key o.row v) o.life) buy) (sym done)
+
+-- of a job that a post brought no strike was made
+pub posted_fresh : (e later : Setting) (v w : View) (r k n : ℕ) (i : Job) → later ≡ e → KnowsKey e v r k → (0 < n → IsFresh later w i (known_key r v) n) → n ≢ 0 → IsFresh e w i k n
+posted_fresh e later v w r k n i same knows fresh some = subst (λ m. IsFresh e w i m n) (known_is e v r k knows) (subst (λ x. IsFresh x w i (known_key r v) n) same (fresh (omega (arith, some))))
 
 module _ (e : Setting) (v : View) (k l : ℕ) (i : Job) (b : List Line) (lines : HasLines e v (of (item.Owe k i l) ∷ b)) where
   owe_top : flat v.stacks ≡ of (item.Owe k i l) ∷ b
@@ -43,5 +57,5 @@ module _ (e : Setting) (v : View) (k l : ℕ) (i : Job) (b : List Line) (lines :
     pub posted_none : (r : ℕ) → KnowsKey e v r k → w ≡ after e (post r i (known_key r v) l) n v → n ≡ 0 → HasLines e w b
     posted_none r knows is none = subst (HasLines e w) (came_none i k n b none) (posted_lines r knows is)
 
-    pub posted_some : (r : ℕ) → KnowsKey e v r k → w ≡ after e (post r i (known_key r v) l) n v → n ≢ 0 → HasLines e w (of (begins i k n) ∷ credit ∷ b)
-    posted_some r knows is some = subst (HasLines e w) (came_some i k n b some) (posted_lines r knows is)
+    pub posted_some : (r m : ℕ) → KnowsKey e v r k → w ≡ after e (post r i (known_key r v) l) n v → m ≡ n → m ≢ 0 → HasLines e w (of (begins i k m) ∷ credit ∷ b)
+    posted_some r m knows is number some = subst (λ x. HasLines e w (of (begins i k x) ∷ credit ∷ b)) (sym number) (subst (HasLines e w) (came_some i k n b (λ z. some (number ∙ z))) (posted_lines r knows is))

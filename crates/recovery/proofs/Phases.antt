@@ -3,17 +3,18 @@ use Rattle.std.proofs.Common.{◌≡◌, ◌⊎◌, ℕ, ◌+◌, ◌/◌, ◌�
 use Rattle.graph_model.specs.Graph.{Graph as TaskGraph}
 use Rattle.graph_model.specs.declared.key.Key.{Key}
 use Rattle.graph_model.specs.declared.record.Cause.{Cause}
-use Rattle.core_state.specs.Counts.{is_seen_closed}
+use Rattle.core_state.specs.Tests.{is_seen_closed}
 use Rattle.core_state.specs.Graph.{Graph, Setting}
-use Rattle.core_state.specs.Kinds.{Event, after}
+use Rattle.core_state.specs.Events.{Event, after}
 use Rattle.core_state.specs.Lines.{Line, HasLines, of}
 use Rattle.core_state.specs.Outcome.{spare_left}
+use Rattle.core_state.specs.Sure.{IsFresh}
 use Rattle.core_state.specs.declared.job.Job.TheVariants as job
 use Rattle.core_state.specs.declared.views.Item.TheVariants as item
 use Rattle.core_state.specs.declared.views.View.{View}
-use Rattle.core_state.proofs.AfterLines.{line_gone}
-use Rattle.core_state.proofs.Outcomes.{leaves}
-use Rattle.core_state.proofs.PortLists.{ports_over}
+use Rattle.core_state.proofs.Lines.After.{line_gone}
+use Rattle.core_state.proofs.Lines.Outcomes.{leaves}
+use Rattle.core_state.proofs.Lines.Ports.{ports_over}
 use Rattle.core_steps.specs.Seat.{known_of}
 use Rattle.key_table.proofs.Paths.{passed_stays}
 use Rattle.recovery.specs.Memory.{Remembers}
@@ -49,7 +50,6 @@ no_life (turn.LivesSpent k l c) r is = absurd cc
 
 pub going_spends : (p : Phase) → is_spent (going p) ≡ false
 going_spends phase.Suspect = refl
-going_spends phase.Wait = refl
 going_spends (phase.Renew done) = refl
 going_spends phase.Finish = refl
 going_spends (phase.Owe owe behind) = refl
@@ -98,11 +98,11 @@ module _ (g : TaskGraph) (e : Setting) (v w : View) (before : Recover) (fits : F
   -- something stands above the rest
   pub stays_below : (next : Phase) (now : Recover) (t : Turn) → IsOnward (e.graph.ports before.key.0) reenter phase.Passed next → now ≡ record before { phase = next }
       → ((b : List Line) → HasLines e v (recover_lines e.graph before b) → HasLines e w (turn_lines t (port_lines e.graph before.key.0 (before.life + 1) reenter.port b)))
-      → ((p : Phase) → TurnTells g e w p t) → Recovers g e v w before now t
+      → ((p : Phase) → phase_credits p ≡ 0 → TurnTells g e w p t) → Recovers g e v w before now t
   stays_below next now t onward is lines tells = ⊎_elim
-      (λ o. moves g e v w before fits knows (phase.Reenter reenter) now t t (is ∙ ap (λ p. record before { phase = p }) o.0) refl lines (o.1, o.2, way) (tells (phase.Reenter reenter)) none)
+      (λ o. moves g e v w before fits knows (phase.Reenter reenter) now t t (is ∙ ap (λ p. record before { phase = p }) o.0) refl lines (o.1, o.2, way) (tells (phase.Reenter reenter) refl) none)
       (λ o. moves g e v w before fits knows phase.Passed now t t (is ∙ ap (λ p. record before { phase = p }) o.0) refl
-      (λ b old. subst (λ ls. HasLines e w (turn_lines t ls)) (no_ports e.graph before.key.0 (before.life + 1) reenter.port b o.1) (lines b old)) tt (tells phase.Passed) none)
+      (λ b old. subst (λ ls. HasLines e w (turn_lines t ls)) (no_ports e.graph before.key.0 (before.life + 1) reenter.port b o.1) (lines b old)) tt (tells phase.Passed refl) none)
       onward
 
 -- What the way to a successor rests on stays.
@@ -118,7 +118,6 @@ told_stays g e v w r k more told = record { is_key = told.is_key; known = key_st
 
 phase_stays : (g : TaskGraph) (e : Setting) (v w : View) (k l lives : ℕ) (p : Phase) → Remembers v w → FitsPhase g e v k l lives p → FitsPhase g e w k l lives p
 phase_stays g e v w k l lives phase.Suspect more fits = tt
-phase_stays g e v w k l lives phase.Wait more fits = tt
 phase_stays g e v w k l lives (phase.Renew done) more fits = fits
 phase_stays g e v w k l lives phase.Finish more fits = fits
 phase_stays g e v w k l lives (phase.Owe owe behind) more fits = (told_stays g e v w owe.row owe.key.0 more fits.0, way_stays e v w k behind.port behind.way more fits.1)
@@ -145,9 +144,9 @@ module _ (g : TaskGraph) (e : Setting) (v w : View) (r : Recover) (fits : Fits g
   pub goes_posted : (next : Phase) (now : Recover) (told : Turn) → answer ≡ paid.Posted → IsOnward (e.graph.ports r.key.0) behind phase.Over next → now ≡ record r { phase = next } → told ≡ going next → Recovers g e v w r now told
   goes_posted next now told paid_is onward same tells = goes_onward g e v w r fits more behind rests.1 (credits ∙ ap paid_credits paid_is) next now told onward same tells (paid_as paid.Posted paid_is)
 
-  pub goes_given : (life : ℕ) (next : Phase) (now : Recover) (told : Turn) → answer ≡ paid.Given life → IsOnward (e.graph.ports r.key.0) behind phase.Passed next → now ≡ record r { phase = next } → told ≡ turn.Given owe.row owe.key owe.job life → Recovers g e v w r now told
-  goes_given life next now told paid_is onward same tells = subst (λ t. Recovers g e v w r now t) (sym tells)
-      (stays_below g e v w r fits more behind rests.1 (credits ∙ ap paid_credits paid_is) next now (turn.Given owe.row owe.key owe.job life) onward same (paid_as (paid.Given life) paid_is) (λ p. rests.0))
+  pub goes_given : (life : ℕ) (next : Phase) (now : Recover) (told : Turn) → answer ≡ paid.Given life → IsOnward (e.graph.ports r.key.0) behind phase.Passed next → now ≡ record r { phase = next } → told ≡ turn.Given owe.row owe.key owe.job life → IsFresh e w owe.job owe.key.0 life → Recovers g e v w r now told
+  goes_given life next now told paid_is onward same tells fresh = subst (λ t. Recovers g e v w r now t) (sym tells)
+      (stays_below g e v w r fits more behind rests.1 (credits ∙ ap paid_credits paid_is) next now (turn.Given owe.row owe.key owe.job life) onward same (paid_as (paid.Given life) paid_is) (λ p none. (rests.0, none, fresh)))
 
 -- What the step for a successor comes to.
 module _ (g : TaskGraph) (e : Setting) (v w : View) (r : Recover) (fits : Fits g e v r) (more : Remembers v w) (before reenter : Reenter) (is : r.phase ≡ phase.Reenter before) (answer : Reached) (goes : Reenters e v w r.key.0 before reenter answer) (none : w.spare ≡ 0) (tells : ReachedTells g e w answer) where
@@ -162,7 +161,7 @@ module _ (g : TaskGraph) (e : Setting) (v w : View) (r : Recover) (fits : Fits g
       moves g e v w r fits more (phase.Owe first reenter) now turn.Going told (same ∙ ap (λ o. record r { phase = phase.Owe o reenter }) owe_is) told_is (reached_as (reached.Last row key life) reached_is) (subst (ReachedTells g e w) reached_is tells, goes.way) refl none
 
   pub goes_met : (row life : ℕ) (key : Key) (c : Cause) (next : Phase) (now : Recover) → answer ≡ reached.Mark row key life c → IsOnward (e.graph.ports r.key.0) reenter phase.Passed next → now ≡ record r { phase = next } → Recovers g e v w r now (turn.Met row key life c)
-  goes_met row life key c next now reached_is onward same = stays_below g e v w r fits more reenter goes.way none next now (turn.Met row key life c) onward same (reached_as (reached.Mark row key life c) reached_is) (λ p. subst (ReachedTells g e w) reached_is tells)
+  goes_met row life key c next now reached_is onward same = stays_below g e v w r fits more reenter goes.way none next now (turn.Met row key life c) onward same (reached_as (reached.Mark row key life c) reached_is) (λ p spent. (subst (ReachedTells g e w) reached_is tells, spent))
 
 -- Nothing is left.
 pub goes_nowhere : (g : TaskGraph) (e : Setting) (v : View) (r now : Recover) (told : Turn) → Fits g e v r → (r.phase ≡ phase.Passed) ⊎ (r.phase ≡ phase.Over) → v.spare ≡ phase_credits r.phase → now ≡ record r { phase = phase.Over } → told ≡ turn.Done → Recovers g e v v r now told

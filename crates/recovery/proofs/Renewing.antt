@@ -1,26 +1,30 @@
 -- What the steps of an election and of a renewal ask, and what they come to.
-use Rattle.std.proofs.Common.{◌≡◌, ℕ, ◌+◌, ◌-◌, ◌<◌, ◌≤◌, Bool, true, false, cond, nat_lt, ne_eqb, eq-eqb, lt-ltb, le-ltb, List, [], ◌∷◌, arith, sym, ap, refl, ◌∙◌, subst}
+use Rattle.std.proofs.Common.{◌≡◌, ℕ, ◌+◌, ◌-◌, ◌<◌, ◌≤◌, Bool, true, false, cond, ne_eqb, eq-eqb, lt-ltb, le-ltb, List, [], ◌∷◌, arith, sym, ap, refl, ◌∙◌, subst}
 use mathlib.Core.Logic.{dite}
 use native.Mathlib.Decide.{ℕ_discrete}
 use Rattle.graph_model.specs.Graph.{Graph as TaskGraph}
-use Rattle.core_state.specs.Calls.{AtWork, CanElect, CanFinish, CanRenewDescriptor, CanRenewNotify}
+use Rattle.core_state.specs.Guards.{AtWork, CanElect, CanFinish, CanRenewDescriptor, CanRenewNotify}
 use Rattle.core_state.specs.Counts.{known_key}
-use Rattle.core_state.specs.Events.{all_ports, elected_of}
+use Rattle.core_state.specs.Tests.{is_suspect}
+use Rattle.core_state.specs.Effects.{all_ports, elected_of}
 use Rattle.core_state.specs.Graph.{Setting, greatest_life}
-use Rattle.core_state.specs.Kinds.{after}
-use Rattle.core_state.specs.Kinds.Event.{elect, load_recovery, renew_notify, renew_descriptor, finish}
+use Rattle.core_state.specs.Events.{after}
+use Rattle.core_state.specs.Events.Event.{elect, renew_notify, renew_descriptor, finish}
 use Rattle.core_state.specs.Lines.{Line, HasLines, of, elected_lines}
+use Rattle.core_state.specs.Sure.{IsSure}
 use Rattle.core_state.specs.Views.{top_items}
-use Rattle.core_state.specs.Words.{standing_life}
 use Rattle.core_state.specs.declared.answers.Elected.{Elected}
 use Rattle.core_state.specs.declared.answers.Elected.TheVariants as elected
 use Rattle.core_state.specs.declared.job.Job.TheVariants as job
 use Rattle.core_state.specs.declared.views.Item.{Item}
 use Rattle.core_state.specs.declared.views.Item.TheVariants as item
 use Rattle.core_state.specs.declared.views.View.{View}
-use Rattle.core_state.proofs.AfterLines.{line_stands, elects, renewing_low, loaded_recovery, renews_notify, renews_descriptor, finishes}
-use Rattle.core_state.proofs.TopLines.{at_work}
+use Rattle.core_state.proofs.Lines.After.{line_stands, elects, renewing_low, renews_notify, renews_descriptor, finishes}
+use Rattle.core_state.proofs.Base.Counting.{two_here}
+use Rattle.core_state.proofs.Lines.Counts.{top_passes}
+use Rattle.core_state.proofs.Lines.Top.{at_work}
 use Rattle.core_steps.specs.Serving.{life_at, first_life, first_waits, work_life, work_waits}
+use Rattle.recovery.specs.Happening.{phase_event, turn_event}
 use Rattle.recovery.specs.Memory.{KnowsKey, IsOnTop}
 use Rattle.recovery.specs.Recovering.{recover_lines, phase_lines, phase_credits, turn_lines, Fits, FitsPhase, Recovers, TurnTells}
 use Rattle.recovery.specs.declared.owe.Owe.{Owe}
@@ -89,6 +93,19 @@ module _ (e : Setting) (v : View) (r : Recover) (knows : KnowsKey e v r.row r.ke
     not_last = subst (λ k. r.life < greatest_life e k) (sym (known_is e v r.row r.key.0 knows)) (subst (λ m. r.life < m) lives below);
   }
 
+-- the event of a renewal, by the words that are left
+module _ (e : Setting) (v : View) (r : Recover) (done : ℕ) (is : r.phase ≡ phase.Renew done) where
+  pub renews_word : done < e.graph.notify_words r.key.0 → renew_notify r.row (known_key r.row v) (work_life v) done ≡ turn_event e v r
+  renews_word low = ap (λ (b : Bool). cond b (renew_notify r.row (known_key r.row v) (work_life v) done) (renew_descriptor r.row (known_key r.row v) (work_life v))) (sym (lt-ltb done (e.graph.notify_words r.key.0) low)) ∙ ap (phase_event e v r) (sym is)
+
+  pub renews_last : e.graph.notify_words r.key.0 ≤ done → renew_descriptor r.row (known_key r.row v) (work_life v) ≡ turn_event e v r
+  renews_last high = ap (λ (b : Bool). cond b (renew_notify r.row (known_key r.row v) (work_life v) done) (renew_descriptor r.row (known_key r.row v) (work_life v))) (sym (le-ltb done (e.graph.notify_words r.key.0) high)) ∙ ap (phase_event e v r) (sym is)
+
+-- a suspect on top is of a life up to the greatest
+pub life_low : (e : Setting) (v : View) (r : Recover) → IsSure e v → r.phase ≡ phase.Suspect → r.lives ≡ greatest_life e r.key.0 → IsOnTop e v (recover_lines e.graph r) → r.life ≤ r.lives
+life_low e v r sure is lives top = let here = line_stands e v (item.Suspect r.key.0 r.life r.cause r.wait) top.below refl (lines_in e v r phase.Suspect top.below is top.lines_are) in
+    let low = (sure.lives r.key.0 r.life (top_passes (is_suspect r.key.0 r.life) v (item.Suspect r.key.0 r.life r.cause r.wait) top.below here (two_here r.key.0 r.life))).1 in omega (arith, low, lives)
+
 -- What an election comes to, by its answer.
 module _ (g : TaskGraph) (e : Setting) (v w : View) (n : ℕ) (r : Recover) (fits : Fits g e v r) (is : r.phase ≡ phase.Suspect) (none : v.spare ≡ 0) (told : Elected) (t : told ≡ elected_of r.life n) (view : w ≡ after e (elect r.row (known_key r.row v) r.life r.cause (work_waits v)) n v) where
   electing : (b : List Line) → HasLines e v (recover_lines e.graph r b) → HasLines e w (elected_lines r.key.0 r.life r.wait told (of (item.Suspect r.key.0 r.life r.cause r.wait) ∷ b))
@@ -127,28 +144,11 @@ module _ (g : TaskGraph) (e : Setting) (v w : View) (n : ℕ) (r : Recover) (fit
       same : m ≤ r.life → m ≡ r.life
       same low = dite (ℕ_discrete m r.life) (λ z. z) (λ ne. absurd (late (omega (arith, low, ne))))
 
-  pub goes_waiting : (m : ℕ) (now : Recover) (turned : Turn) → told ≡ elected.Renewing m → (m < r.life → ⊥) → r.wait ≡ true → now ≡ record r { phase = phase.Wait } → turned ≡ turn.Going → Recovers g e v w r now turned
-  goes_waiting m now turned told_is late waits same goes = next_is phase.Wait now turned turn.Going same goes (renewed m true told_is late waits) tt refl unspent
+  pub goes_waiting : (m : ℕ) (now : Recover) (turned : Turn) → told ≡ elected.Renewing m → (m < r.life → ⊥) → r.wait ≡ true → now ≡ record r { phase = phase.Suspect } → turned ≡ turn.Going → Recovers g e v w r now turned
+  goes_waiting m now turned told_is late waits same goes = next_is phase.Suspect now turned turn.Going same goes (renewed m true told_is late waits) tt refl unspent
 
   pub goes_away : (m : ℕ) (now : Recover) (turned : Turn) → told ≡ elected.Renewing m → (m < r.life → ⊥) → r.wait ≡ false → now ≡ record r { phase = phase.Over } → turned ≡ turn.Done → Recovers g e v w r now turned
   goes_away m now turned told_is late waits same goes = next_is phase.Over now turned turn.Done same goes (renewed m false told_is late waits) tt refl unspent
-
--- What the look at a replacement that is awaited comes to.
-module _ (g : TaskGraph) (e : Setting) (v w : View) (n : ℕ) (r : Recover) (fits : Fits g e v r) (is : r.phase ≡ phase.Wait) (none : v.spare ≡ 0) (view : w ≡ after e (load_recovery r.row (known_key r.row v)) n v) where
-  looked : (b : List Line) → HasLines e v (recover_lines e.graph r b) → HasLines e w (cond (nat_lt r.life (standing_life n)) b (of (item.Suspect r.key.0 r.life r.cause r.wait) ∷ b))
-  looked b lines = loaded_recovery e v w n r.key.0 r.life r.cause r.wait (nat_lt r.life (standing_life n)) b (line_stands e v (item.Suspect r.key.0 r.life r.cause r.wait) b refl (lines_in e v r phase.Wait b is lines)) refl
-      (subst (λ k. w ≡ after e (load_recovery 0 k) n v) (known_is e v r.row r.key.0 fits.known) view)
-
-  unspent_still : w.spare ≡ 0
-  unspent_still = credits_kept e (load_recovery r.row (known_key r.row v)) n 0 v w view refl none
-
-  pub goes_cleared : (now : Recover) (turned : Turn) → r.life < standing_life n → now ≡ record r { phase = phase.Over } → turned ≡ turn.Done → Recovers g e v w r now turned
-  goes_cleared now turned later same goes = moves g e v w r fits (remembers_apart e (load_recovery r.row (known_key r.row v)) n v w refl view) phase.Over now turn.Done turned same goes
-      (λ b lines. subst (λ c. HasLines e w (cond c b (of (item.Suspect r.key.0 r.life r.cause r.wait) ∷ b))) (lt-ltb r.life (standing_life n) later) (looked b lines)) tt refl unspent_still
-
-  pub goes_still : (now : Recover) (turned : Turn) → standing_life n ≤ r.life → now ≡ record r { phase = phase.Wait } → turned ≡ turn.Going → Recovers g e v w r now turned
-  goes_still now turned late same goes = moves g e v w r fits (remembers_apart e (load_recovery r.row (known_key r.row v)) n v w refl view) phase.Wait now turn.Going turned same goes
-      (λ b lines. subst (λ c. HasLines e w (cond c b (of (item.Suspect r.key.0 r.life r.cause r.wait) ∷ b))) (le-ltb r.life (standing_life n) late) (looked b lines)) tt refl unspent_still
 
 -- What the renewal of a word comes to.
 module _ (g : TaskGraph) (e : Setting) (v w : View) (n : ℕ) (r : Recover) (fits : Fits g e v r) (none : v.spare ≡ 0) where

@@ -4,8 +4,8 @@ use Rattle.graph_model.specs.Graph.{Graph as TaskGraph, IsLawful}
 use Rattle.graph_model.specs.Serial.{Outcome}
 use Rattle.graph_model.specs.declared.plan.Strike.{Strike}
 use Rattle.core_state.specs.Rooted.{setting_of}
-use Rattle.core_state.proofs.Asking.{graph_matches}
-use Rattle.core_state.proofs.Matching.{lawful_graph}
+use Rattle.core_state.proofs.Start.Asked.{graph_matches}
+use Rattle.core_state.proofs.Start.Setting.{lawful_graph}
 use Rattle.recovery.specs.Serving.{Serves}
 
 pub serves_its_setting : (g : TaskGraph) (outcome : Outcome) (strikes : List Strike) (lives : ℕ) → IsLawful g → Serves g (setting_of g outcome strikes lives)

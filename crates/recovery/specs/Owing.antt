@@ -1,7 +1,10 @@
 -- A job that is owed, as a line, and what its steps leave.
 use Rattle.std.specs.Prelude.{ℕ, ◌++◌, Bool, true, false, cond, List, [], ◌∷◌}
+use Rattle.core_state.specs.Graph.{Setting}
 use Rattle.core_state.specs.Lines.{Line, of, credit, begins}
+use Rattle.core_state.specs.Sure.{IsFresh}
 use Rattle.core_state.specs.declared.views.Item.TheVariants as item
+use Rattle.core_state.specs.declared.views.View.{View}
 use Rattle.recovery.specs.declared.owe.Owe.{Owe}
 use Rattle.recovery.specs.declared.owe.Paid.{Paid}
 use Rattle.recovery.specs.declared.owe.Paid.TheVariants as paid
@@ -41,3 +44,9 @@ abbrev pub is_given_life : Paid → Bool
 is_given_life paid.Bought = false
 is_given_life paid.Posted = false
 is_given_life (paid.Given life) = true
+
+-- of a job that a post brought no strike was made
+abbrev pub GivenFresh : Setting → View → Owe → Paid → Type 0
+GivenFresh e v o paid.Bought = Unit {0}
+GivenFresh e v o paid.Posted = Unit {0}
+GivenFresh e v o (paid.Given life) = IsFresh e v o.job o.key.0 life

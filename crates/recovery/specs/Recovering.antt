@@ -1,15 +1,16 @@
 -- A replacement as lines, what its next turn rests on, and what a turn tells.
-use Rattle.std.specs.Prelude.{◌≡◌, ◌⊎◌, ℕ, ◌+◌, ◌^◌, ◌<◌, ◌≤◌, Bool, true, false, ◌&&◌, not, nat_le, List, [], ◌∷◌}
+use Rattle.std.specs.Prelude.{◌≡◌, ◌⊎◌, ℕ, ◌+◌, ◌^◌, ◌<◌, ◌≤◌, Bool, true, false, ◌&&◌, not, eqb, List, [], ◌∷◌}
 use Rattle.graph_model.specs.Graph.{Graph as TaskGraph}
 use Rattle.graph_model.specs.declared.record.Cause.{Cause}
 use Rattle.core_state.specs.Asked.{IsCoreKey}
 use Rattle.core_state.specs.Graph.{Graph, Setting, greatest_life}
 use Rattle.core_state.specs.Lines.{Line, HasLines, of, credit, begins}
+use Rattle.core_state.specs.Sure.{IsFresh}
 use Rattle.core_state.specs.declared.views.Item.TheVariants as item
 use Rattle.core_state.specs.declared.views.View.{View}
 use Rattle.recovery.specs.Memory.{KnowsKey}
 use Rattle.recovery.specs.Owing.{owe_lines, owe_credits, owe_hints}
-use Rattle.recovery.specs.Reentering.{port_lines, FitsWay, IsTold, is_seeking, reads_mark}
+use Rattle.recovery.specs.Reentering.{port_lines, FitsWay, IsTold, reads_mark}
 use Rattle.recovery.specs.declared.recover.Phase.{Phase}
 use Rattle.recovery.specs.declared.recover.Phase.TheVariants as phase
 use Rattle.recovery.specs.declared.recover.Recover.{Recover}
@@ -20,7 +21,6 @@ use Rattle.recovery.specs.declared.turn.Turn.TheVariants as turn
 -- The lines of what is left of the replacement of life l of k. The successors are entered again for the next life. A re-entering without ports stays where something stands above it.
 abbrev pub phase_lines : Graph → ℕ → ℕ → Cause → Bool → Phase → List Line → List Line
 phase_lines g k l c waits phase.Suspect b = of (item.Suspect k l c waits) ∷ b
-phase_lines g k l c waits phase.Wait b = of (item.Suspect k l c waits) ∷ b
 phase_lines g k l c waits (phase.Renew done) b = of (item.Renew k l done) ∷ b
 phase_lines g k l c waits phase.Finish b = of (item.Renew k l (g.notify_words k + 1)) ∷ b
 phase_lines g k l c waits (phase.Owe owe behind) b = owe_lines owe (port_lines g k (l + 1) behind.port b)
@@ -56,19 +56,14 @@ is_over phase.Passed = true
 is_over phase.Over = true
 is_over _ = false
 
--- an election is next, and the life is the greatest that is allowed, or a later one
+-- an election is next, and the life is the greatest that is allowed
 abbrev pub is_last : Phase → ℕ → ℕ → Bool
-is_last phase.Suspect l lives = nat_le lives l
+is_last phase.Suspect l lives = eqb l lives
 is_last _ l lives = false
 
 -- the next turn makes a step
 abbrev pub makes_step : Recover → Bool
 makes_step r = not (is_over r.phase) && not (is_last r.phase r.life r.lives)
-
--- it looks for a row
-abbrev pub is_looking : Phase → Bool
-is_looking (phase.Reenter reenter) = is_seeking reenter.way
-is_looking _ = false
 
 -- a post hints at its row
 abbrev pub turn_hints : Phase → List ℕ → List ℕ
@@ -83,12 +78,12 @@ turn_lines (turn.Met row k l c) b = of (item.Suspect k.0 l c false) ∷ b
 turn_lines (turn.Given row k i l) b = of (begins i k.0 l) ∷ credit ∷ b
 turn_lines (turn.LivesSpent k l c) b = b
 
--- what a turn tells of what is left, and of a task or the root
+-- What a turn tells of what is left, and of a task or the root. What was met or given finds no credit to spare, and of a job that was given no strike was made.
 abbrev pub TurnTells : TaskGraph → Setting → View → Phase → Turn → Type 0
 TurnTells g e v next turn.Going = is_over next ≡ false
 TurnTells g e v next turn.Done = next ≡ phase.Over
-TurnTells g e v next (turn.Met row k l c) = IsTold g e v row k.0
-TurnTells g e v next (turn.Given row k i l) = IsTold g e v row k.0
+TurnTells g e v next (turn.Met row k l c) = IsTold g e v row k.0 × (phase_credits next ≡ 0)
+TurnTells g e v next (turn.Given row k i l) = IsTold g e v row k.0 × (phase_credits next ≡ 0) × IsFresh e v i k.0 l
 TurnTells g e v next (turn.LivesSpent k l c) = next ≡ phase.Suspect
 
 -- a turn that ends the run tells the life of the replacement

@@ -5,8 +5,8 @@ use Rattle.key_table.specs.Seeking.{Seeking}
 use Rattle.graph_model.specs.Graph.{Graph as TaskGraph}
 use Rattle.graph_model.specs.declared.key.Key.{Key}
 use Rattle.core_state.specs.Asked.{IsCoreKey}
-use Rattle.core_state.specs.Calls.{KnowsClosed}
-use Rattle.core_state.specs.Events.{all_ports}
+use Rattle.core_state.specs.Guards.{KnowsClosed}
+use Rattle.core_state.specs.Effects.{all_ports}
 use Rattle.core_state.specs.Graph.{Graph, Setting}
 use Rattle.core_state.specs.Lines.{Line, HasLines, of}
 use Rattle.core_state.specs.declared.job.Job.TheVariants as job
@@ -40,14 +40,6 @@ FitsWay e v k q (way.Seek s) = IsSearch e v (e.graph.succ k q).task s
 FitsWay e v k q (way.Load r) = KnowsKey e v r (e.graph.succ k q).task
 FitsWay e v k q (way.Register r) = KnowsKey e v r (e.graph.succ k q).task
 FitsWay e v k q (way.Spend r) = KnowsKey e v r (e.graph.succ k q).task × KnowsClosed e v k q
-
--- the next step looks for a row
-abbrev pub is_seeking : Way → Bool
-is_seeking way.Start = true
-is_seeking (way.Seek s) = true
-is_seeking (way.Load r) = false
-is_seeking (way.Register r) = false
-is_seeking (way.Spend r) = false
 
 -- the next step is on a word that may show the mark of a strike
 abbrev pub reads_mark : Way → Bool

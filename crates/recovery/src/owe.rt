@@ -24,8 +24,9 @@ pub enum Paid {
 impl Owe {
     ghost use Rattle.std.specs.Prelude.{◌≡◌, ◌≤◌, ◌<◌, ◌+◌, List, length, true, false, not, ◌&&◌, ◌==◌};
     ghost use Rattle.core_state.specs.Lines.{Line, HasLines};
-    ghost use Rattle.recovery.specs.Memory.{KnowsKey, IsOnTop, MakesStep};
-    ghost use Rattle.recovery.specs.Owing.{owe_lines, owe_credits, paid_lines, paid_credits, owe_hints, is_bought, is_given_life};
+    ghost use Rattle.recovery.specs.Memory.{KnowsKey, IsOnTop, MakesStep, SameResults};
+    ghost use Rattle.recovery.specs.Happening.{owe_event};
+    ghost use Rattle.recovery.specs.Owing.{GivenFresh, owe_lines, owe_credits, paid_lines, paid_credits, owe_hints, is_bought, is_given_life};
 
     /// A job that is owed, without a credit.
     pub fn new(row: u32, key: Key, job: Job, life: u32) -> Owe
@@ -58,7 +59,8 @@ impl Owe {
         self.job
     }
 
-    /// Buys a credit, or posts the job with it. Only a post changes the hints.
+    /// Buys a credit, or posts the job with it. Only a post changes the hints. Of a job that a post
+    /// brings no strike was made.
     pub fn turn<T: Steps>(&mut self, steps: &mut T, hints: &mut Hints) -> Paid
         requires row { KnowsKey (T.setting steps.old) (T.view steps.old) self.old.row self.old.key.0 }
         requires credit { (T.view steps.old).spare ≡ owe_credits self.old }
@@ -69,10 +71,11 @@ impl Owe {
         ensures credit { (T.view steps.new).spare ≡ paid_credits result }
         ensures bought { is_bought result ≡ not self.old.bought }
         ensures given { is_given_life result ≡ (self.old.bought && not ((T.shown steps.new).1 == 0)) }
+        ensures fresh { GivenFresh (T.setting steps.old) (T.view steps.new) self.old result }
         ensures owe { self.new ≡ record self.old { bought = true } }
         ensures hints { hints.new ≡ owe_hints self.old hints.old }
-        ensures step { MakesStep T.setting T.view T.lender T.others T.KeyWords.made T.KeyWords.spare steps.old steps.new }
-        ensures last { T.KeyWords.last steps.new ≡ T.KeyWords.last steps.old }
+        ensures step { MakesStep T.setting T.view T.KeyWords.made T.KeyWords.spare T.KeyWords.last T.shown T.happened T.lender T.others (owe_event (T.view steps.old) self.old) steps.old steps.new }
+        ensures results { SameResults (T.view steps.old) (T.view steps.new) }
     {
         if !self.bought {
             steps.buy();

@@ -22,8 +22,6 @@ pub struct Recover {
 enum Phase {
     /// An election is next.
     Suspect,
-    /// Another worker's replacement of this life has to end.
-    Wait,
     /// So many notify words are renewed.
     Renew { done: u32 },
     /// All words are renewed.
@@ -37,21 +35,26 @@ enum Phase {
 }
 
 impl Recover {
-    ghost use Rattle.std.specs.Prelude.{◌≡◌, ◌≤◌, ◌<◌, ◌+◌, ◌^◌, ◌&&◌, ◌==◌, not, length, true, false};
+    ghost use Rattle.std.specs.Prelude.{◌≡◌, ◌≤◌, ◌<◌, ◌+◌, ◌*◌, ◌^◌, ◌&&◌, ◌==◌, not, length, true, false};
     ghost use Rattle.core_state.specs.Words.{mark_of};
     ghost use Rattle.graph_model.specs.Graph.{Graph as Tasks};
     ghost use Rattle.core_state.specs.Asked.{IsCoreKey, InEachGraphOf};
-    ghost use Rattle.core_state.specs.Graph.{greatest_life};
-    ghost use Rattle.recovery.specs.Memory.{KnowsKey, IsOnTop, MakesStep};
+    ghost use Rattle.core_state.specs.Graph.{Setting, greatest_life};
+    ghost use Rattle.core_state.specs.Sure.{IsSure};
+    ghost use Rattle.recovery.specs.Memory.{KnowsKey, IsOnTop, MakesStep, SameResults};
     ghost use Rattle.recovery.specs.Serving.{Serves};
-    ghost use Rattle.recovery.specs.Reentering.{is_seeking, reads_mark};
+    ghost use Rattle.recovery.specs.Reentering.{reads_mark};
+    ghost use Rattle.recovery.specs.Happening.{turn_event};
+    ghost use Rattle.recovery.specs.Resting.{Rests, recover_rest};
     ghost use Rattle.recovery.specs.Owing.{owe_credits, owe_hints};
-    ghost use Rattle.recovery.specs.Recovering.{Fits, IsOnward, Recovers, SpendsLife, going, is_given, is_last, is_looking, is_met, is_over, is_quiet, is_spent, makes_step, phase_credits, posts, recover_lines, sees_mark, turn_hints};
+    ghost use Rattle.recovery.specs.Recovering.{Fits, IsOnward, Recovers, SpendsLife, going, is_given, is_last, is_met, is_over, is_quiet, is_spent, makes_step, phase_credits, posts, recover_lines, sees_mark, turn_hints};
 
     /// The replacement of a life that a view suspects for this cause. With `wait` the end of another
-    /// worker's replacement of this life is awaited. `lives` is the greatest life of the key.
+    /// worker's replacement of this life is awaited, by one election after another. `lives` is the
+    /// greatest life of the key.
     pub fn new(row: u32, key: Key, life: u32, cause: Cause, wait: bool, lives: u32) -> Recover
-        ensures { result ≡ record { row = row; key = key; life = life; cause = cause; wait = wait; lives = lives; phase = Phase.Suspect } }
+        ensures new { result ≡ record { row = row; key = key; life = life; cause = cause; wait = wait; lives = lives; phase = Phase.Suspect } }
+        ensures rest { (g : Tasks) (e : Setting) → Serves g e → IsCoreKey g key.0 → 0 < e.shape.rows → recover_rest e result ≤ 20 * e.shape.rows * (e.graph.ports key.0 + 3) }
     {
         Recover {
             row,
@@ -71,7 +74,6 @@ impl Recover {
         match &self.phase {
             Phase::Passed | Phase::Over => true,
             Phase::Suspect
-            | Phase::Wait
             | Phase::Renew { done: _ }
             | Phase::Finish
             | Phase::Owe { owe: _, behind: _ }
@@ -88,7 +90,6 @@ impl Recover {
         match &self.phase {
             Phase::Over => Turn::Done,
             Phase::Suspect
-            | Phase::Wait
             | Phase::Renew { done: _ }
             | Phase::Finish
             | Phase::Owe { owe: _, behind: _ }
@@ -107,8 +108,8 @@ impl Recover {
         requires room { 1 ≤ T.KeyWords.spare steps.old }
         ensures goes { (g : Tasks) → Fits g (T.setting steps.old) (T.view steps.old) self.old → Recovers g (T.setting steps.old) (T.view steps.old) (T.view steps.new) self.old self.new result }
         ensures quiet { is_quiet result ≡ true }
-        ensures step { MakesStep T.setting T.view T.lender T.others T.KeyWords.made T.KeyWords.spare steps.old steps.new }
-        ensures last { T.KeyWords.last steps.new ≡ T.KeyWords.last steps.old }
+        ensures step { MakesStep T.setting T.view T.KeyWords.made T.KeyWords.spare T.KeyWords.last T.shown T.happened T.lender T.others (turn_event (T.setting steps.old) (T.view steps.old) self.old) steps.old steps.new }
+        ensures rest { Rests (T.setting steps.old) self.old self.new result (T.shown steps.new).1 }
     {
         match steps.elect(self.row, self.life, self.cause) {
             Elected::Yes => self.go(Phase::Renew { done: 0 }),
@@ -117,29 +118,12 @@ impl Recover {
                 if life < self.life {
                     self.go(Phase::Suspect)
                 } else if self.wait {
-                    self.go(Phase::Wait)
+                    // the next election asks whether it has ended
+                    self.go(Phase::Suspect)
                 } else {
                     self.go(Phase::Over)
                 }
             }
-        }
-    }
-
-    fn look<T: Steps>(&mut self, steps: &mut T) -> Turn
-        requires phase { self.old.phase ≡ Phase.Wait }
-        requires row { KnowsKey (T.setting steps.old) (T.view steps.old) self.old.row self.old.key.0 }
-        requires credit { (T.view steps.old).spare ≡ 0 }
-        requires room { 1 ≤ T.KeyWords.spare steps.old }
-        ensures goes { (g : Tasks) → Fits g (T.setting steps.old) (T.view steps.old) self.old → Recovers g (T.setting steps.old) (T.view steps.old) (T.view steps.new) self.old self.new result }
-        ensures quiet { is_quiet result ≡ true }
-        ensures step { MakesStep T.setting T.view T.lender T.others T.KeyWords.made T.KeyWords.spare steps.old steps.new }
-        ensures last { T.KeyWords.last steps.new ≡ T.KeyWords.last steps.old }
-    {
-        let stands = steps.load_recovery(self.row);
-        if stands.life > self.life {
-            self.go(Phase::Over)
-        } else {
-            self.go(Phase::Wait)
         }
     }
 
@@ -156,8 +140,8 @@ impl Recover {
         requires credit { (T.view steps.old).spare ≡ 0 }
         ensures goes { Recovers (G.graph graph.now.graph.now) (T.setting steps.old) (T.view steps.old) (T.view steps.new) self.old self.new result }
         ensures quiet { is_quiet result ≡ true }
-        ensures step { MakesStep T.setting T.view T.lender T.others T.KeyWords.made T.KeyWords.spare steps.old steps.new }
-        ensures last { T.KeyWords.last steps.new ≡ T.KeyWords.last steps.old }
+        ensures step { MakesStep T.setting T.view T.KeyWords.made T.KeyWords.spare T.KeyWords.last T.shown T.happened T.lender T.others (turn_event (T.setting steps.old) (T.view steps.old) self.old) steps.old steps.new }
+        ensures rest { Rests (T.setting steps.old) self.old self.new result (T.shown steps.new).1 }
     {
         if done < graph.notify_words(self.key) {
             steps.renew_notify(self.row, done);
@@ -176,8 +160,8 @@ impl Recover {
         requires credit { (T.view steps.old).spare ≡ 0 }
         ensures goes { (g : Tasks) → Fits g (T.setting steps.old) (T.view steps.old) self.old → Recovers g (T.setting steps.old) (T.view steps.old) (T.view steps.new) self.old self.new result }
         ensures quiet { is_quiet result ≡ true }
-        ensures step { MakesStep T.setting T.view T.lender T.others T.KeyWords.made T.KeyWords.spare steps.old steps.new }
-        ensures last { T.KeyWords.last steps.new ≡ T.KeyWords.last steps.old }
+        ensures step { MakesStep T.setting T.view T.KeyWords.made T.KeyWords.spare T.KeyWords.last T.shown T.happened T.lender T.others (turn_event (T.setting steps.old) (T.view steps.old) self.old) steps.old steps.new }
+        ensures rest { Rests (T.setting steps.old) self.old self.new result (T.shown steps.new).1 }
     {
         steps.finish(self.row);
         let owe = Owe::new(self.row, self.key, Job::Explore, self.life + 1);
@@ -217,8 +201,8 @@ impl Recover {
         ensures met { is_met result ≡ false }
         ensures given { is_given result ≡ (owe.bought && not ((T.shown steps.new).1 == 0)) }
         ensures hints { hints.new ≡ owe_hints owe hints.old }
-        ensures step { MakesStep T.setting T.view T.lender T.others T.KeyWords.made T.KeyWords.spare steps.old steps.new }
-        ensures last { T.KeyWords.last steps.new ≡ T.KeyWords.last steps.old }
+        ensures step { MakesStep T.setting T.view T.KeyWords.made T.KeyWords.spare T.KeyWords.last T.shown T.happened T.lender T.others (turn_event (T.setting steps.old) (T.view steps.old) self.old) steps.old steps.new }
+        ensures rest { Rests (T.setting steps.old) self.old self.new result (T.shown steps.new).1 }
     {
         match owe.turn(steps, hints) {
             Paid::Bought => self.go(Phase::Owe { owe, behind }),
@@ -254,8 +238,8 @@ impl Recover {
         ensures spent { is_spent result ≡ false }
         ensures given { is_given result ≡ false }
         ensures met { is_met result ≡ (reads_mark reenter.way && (mark_of (T.shown steps.new).1 == 1)) }
-        ensures step { MakesStep T.setting T.view T.lender T.others T.KeyWords.made T.KeyWords.spare steps.old steps.new }
-        ensures last { is_seeking reenter.way ≡ false → T.KeyWords.last steps.new ≡ T.KeyWords.last steps.old }
+        ensures step { MakesStep T.setting T.view T.KeyWords.made T.KeyWords.spare T.KeyWords.last T.shown T.happened T.lender T.others (turn_event (T.setting steps.old) (T.view steps.old) self.old) steps.old steps.new }
+        ensures rest { Rests (T.setting steps.old) self.old self.new result (T.shown steps.new).1 }
     {
         match reenter.turn(steps, graph, self.row, self.key) {
             Reached::Going => {
@@ -286,8 +270,9 @@ impl Recover {
         }
     }
 
-    /// At most one step. The seat's view knows what this rests on, and its first lines are those of
-    /// this replacement.
+    /// At most one step, of the event that the phase names. The seat's view knows what this rests on,
+    /// and its first lines are those of this replacement. A turn that goes on lets the rest fall, or
+    /// its election met a life that is being replaced.
     pub fn turn<T: Steps, G: TaskGraph>(
         &mut self,
         steps: &mut T,
@@ -296,6 +281,7 @@ impl Recover {
     ) -> Turn
         requires serves { Serves (G.graph graph.now) (T.setting steps.old) }
         requires fits { Fits (G.graph graph.now) (T.setting steps.old) (T.view steps.old) self.old }
+        requires sure { IsSure (T.setting steps.old) (T.view steps.old) }
         requires top { IsOnTop (T.setting steps.old) (T.view steps.old) (recover_lines (T.setting steps.old).graph self.old) }
         requires credit { (T.view steps.old).spare ≡ phase_credits self.old.phase }
         requires room { 1 ≤ T.KeyWords.spare steps.old }
@@ -306,14 +292,15 @@ impl Recover {
         ensures met { is_met result ≡ (sees_mark self.old.phase && (mark_of (T.shown steps.new).1 == 1)) }
         ensures given { is_given result ≡ (posts self.old.phase && not ((T.shown steps.new).1 == 0)) }
         ensures hints { hints.new ≡ turn_hints self.old.phase hints.old }
-        ensures step { makes_step self.old ≡ true → MakesStep T.setting T.view T.lender T.others T.KeyWords.made T.KeyWords.spare steps.old steps.new }
+        ensures step { makes_step self.old ≡ true → MakesStep T.setting T.view T.KeyWords.made T.KeyWords.spare T.KeyWords.last T.shown T.happened T.lender T.others (turn_event (T.setting steps.old) (T.view steps.old) self.old) steps.old steps.new }
         ensures still { makes_step self.old ≡ false → steps.new ≡ steps.old }
-        ensures last { is_looking self.old.phase ≡ false → T.KeyWords.last steps.new ≡ T.KeyWords.last steps.old }
+        ensures results { SameResults (T.view steps.old) (T.view steps.new) }
+        ensures rest { Rests (T.setting steps.old) self.old self.new result (T.shown steps.new).1 }
     {
         let rooted = Rooted::of(graph);
         match &self.phase {
             Phase::Suspect => {
-                if self.life >= self.lives {
+                if self.life == self.lives {
                     Turn::LivesSpent {
                         key: self.key,
                         life: self.life,
@@ -323,7 +310,6 @@ impl Recover {
                     self.elect(steps)
                 }
             }
-            Phase::Wait => self.look(steps),
             Phase::Renew { done } => {
                 let done = *done;
                 self.renew(steps, &rooted, done)

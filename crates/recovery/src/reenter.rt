@@ -39,12 +39,17 @@ pub(crate) enum Reached {
 }
 
 impl Reenter {
-    ghost use Rattle.std.specs.Prelude.{◌≡◌, ◌≤◌, ◌<◌, ◌+◌, ◌^◌, ◌&&◌, ◌==◌, ℕ, Contains, false};
+    ghost use Rattle.std.specs.Prelude.{◌≡◌, ◌≤◌, ◌<◌, ◌+◌, ◌-◌, ◌^◌, ◌&&◌, ◌==◌, ℕ, Contains, false};
     ghost use Rattle.core_state.specs.Words.{mark_of};
     ghost use Rattle.core_state.specs.Asked.{IsCoreKey};
+    ghost use Rattle.core_state.specs.Counts.{known_key};
+    ghost use Rattle.core_state.specs.Events.{Event as event};
+    ghost use Rattle.key_table.specs.Seeking.{next_row};
+    ghost use Rattle.recovery.specs.Happening.{way_event};
     ghost use Rattle.recovery.specs.Memory.{KnowsKey, MakesStep};
+    ghost use Rattle.recovery.specs.Resting.{ReenterRests, way_rest};
     ghost use Rattle.recovery.specs.Serving.{Serves, IsPort};
-    ghost use Rattle.recovery.specs.Reentering.{FitsWay, IsAbout, IsPortWork, IsSearch, MaySpend, ReachedTells, Reenters, is_mark, is_seeking, reads_mark};
+    ghost use Rattle.recovery.specs.Reentering.{FitsWay, IsAbout, IsPortWork, IsSearch, MaySpend, ReachedTells, Reenters, is_mark, reads_mark};
 
     pub(crate) fn from(port: u32) -> Reenter
         ensures { result ≡ record { port = port; way = Way.Start } }
@@ -81,8 +86,8 @@ impl Reenter {
         ensures tells { ReachedTells (G.graph graph.now.graph.now) (T.setting steps.old) (T.view steps.new) result }
         ensures mark { is_mark result ≡ (reads_mark self.old.way && (mark_of (T.shown steps.new).1 == 1)) }
         ensures credit { (T.view steps.new).spare ≡ (T.view steps.old).spare }
-        ensures step { MakesStep T.setting T.view T.lender T.others T.KeyWords.made T.KeyWords.spare steps.old steps.new }
-        ensures last { is_seeking self.old.way ≡ false → T.KeyWords.last steps.new ≡ T.KeyWords.last steps.old }
+        ensures step { MakesStep T.setting T.view T.KeyWords.made T.KeyWords.spare T.KeyWords.last T.shown T.happened T.lender T.others (way_event (T.setting steps.old) (T.view steps.old) row key.0 self.old.port self.old.way) steps.old steps.new }
+        ensures moves { ReenterRests (T.setting steps.old).shape.rows self.old self.new result }
     {
         let (successor, place) = graph.succ(key, self.port);
         match &self.way {
@@ -120,12 +125,14 @@ impl Reenter {
     fn seek<T: Steps>(&mut self, steps: &mut T, mut search: Search) -> Reached
         requires search { IsSearch (T.setting steps.old) (T.view steps.old) search.key search }
         requires listed { Contains (T.setting steps.old).keys search.key }
+        requires way { way_rest (T.setting steps.old).shape.rows self.old.way ≡ ((T.setting steps.old).shape.rows - search.passed) + 9 }
         requires next { self.old.port + 1 < 2 ^ 32 }
         requires room { 1 ≤ T.KeyWords.spare steps.old }
         ensures goes { (key place : ℕ) → IsPort (T.setting steps.old).graph key self.old.port search.key place → Reenters (T.setting steps.old) (T.view steps.old) (T.view steps.new) key self.old self.new result }
         ensures about { result ≡ Reached.Going }
         ensures credit { (T.view steps.new).spare ≡ (T.view steps.old).spare }
-        ensures step { MakesStep T.setting T.view T.lender T.others T.KeyWords.made T.KeyWords.spare steps.old steps.new }
+        ensures step { MakesStep T.setting T.view T.KeyWords.made T.KeyWords.spare T.KeyWords.last T.shown T.happened T.lender T.others (event.look (next_row search)) steps.old steps.new }
+        ensures moves { ReenterRests (T.setting steps.old).shape.rows self.old self.new result }
     {
         match search.turn(steps) {
             Sought::Going => self.way = Way::Seek { search },
@@ -138,14 +145,15 @@ impl Reenter {
     fn load<T: Steps>(&mut self, steps: &mut T, at: u32, successor: Key, place: u32) -> Reached
         requires at { KnowsKey (T.setting steps.old) (T.view steps.old) at successor.0 }
         requires place { place ≤ 40 }
+        requires way { self.old.way ≡ Way.Load at }
         requires next { self.old.port + 1 < 2 ^ 32 }
         requires room { 1 ≤ T.KeyWords.spare steps.old }
         ensures goes { (key : ℕ) → IsPort (T.setting steps.old).graph key self.old.port successor.0 place → Reenters (T.setting steps.old) (T.view steps.old) (T.view steps.new) key self.old self.new result }
         ensures about { IsAbout result at successor }
         ensures mark { is_mark result ≡ (mark_of (T.shown steps.new).1 == 1) }
         ensures credit { (T.view steps.new).spare ≡ (T.view steps.old).spare }
-        ensures step { MakesStep T.setting T.view T.lender T.others T.KeyWords.made T.KeyWords.spare steps.old steps.new }
-        ensures last { T.KeyWords.last steps.new ≡ T.KeyWords.last steps.old }
+        ensures step { MakesStep T.setting T.view T.KeyWords.made T.KeyWords.spare T.KeyWords.last T.shown T.happened T.lender T.others (event.load_descriptor at (known_key at (T.view steps.old))) steps.old steps.new }
+        ensures moves { ReenterRests (T.setting steps.old).shape.rows self.old self.new result }
     {
         let word = steps.load_descriptor(at);
         if word.struck {
@@ -177,8 +185,8 @@ impl Reenter {
         ensures about { IsAbout result row key }
         ensures mark { is_mark result ≡ (mark_of (T.shown steps.new).1 == 1) }
         ensures credit { (T.view steps.new).spare ≡ (T.view steps.old).spare }
-        ensures step { MakesStep T.setting T.view T.lender T.others T.KeyWords.made T.KeyWords.spare steps.old steps.new }
-        ensures last { T.KeyWords.last steps.new ≡ T.KeyWords.last steps.old }
+        ensures step { MakesStep T.setting T.view T.KeyWords.made T.KeyWords.spare T.KeyWords.last T.shown T.happened T.lender T.others (event.register row (known_key row (T.view steps.old)) self.old.port) steps.old steps.new }
+        ensures moves { ReenterRests (T.setting steps.old).shape.rows self.old self.new result }
     {
         match steps.register(row, self.port) {
             Registered::Waiting { life: _ } => {
@@ -207,6 +215,7 @@ impl Reenter {
         preds: u32,
     ) -> Reached
         requires at { KnowsKey (T.setting steps.old) (T.view steps.old) at successor.0 }
+        requires place { place < 40 }
         requires may { MaySpend (T.setting steps.old) (T.view steps.old) self.old.port successor.0 place }
         requires preds { preds ≡ (T.setting steps.old).graph.places successor.0 }
         requires next { self.old.port + 1 < 2 ^ 32 }
@@ -215,8 +224,8 @@ impl Reenter {
         ensures about { IsAbout result at successor }
         ensures mark { is_mark result ≡ (mark_of (T.shown steps.new).1 == 1) }
         ensures credit { (T.view steps.new).spare ≡ (T.view steps.old).spare }
-        ensures step { MakesStep T.setting T.view T.lender T.others T.KeyWords.made T.KeyWords.spare steps.old steps.new }
-        ensures last { T.KeyWords.last steps.new ≡ T.KeyWords.last steps.old }
+        ensures step { MakesStep T.setting T.view T.KeyWords.made T.KeyWords.spare T.KeyWords.last T.shown T.happened T.lender T.others (event.spend at (known_key at (T.view steps.old)) place) steps.old steps.new }
+        ensures moves { ReenterRests (T.setting steps.old).shape.rows self.old self.new result }
     {
         let told = steps.spend(at, place, preds);
         self.leave();
