@@ -28,7 +28,7 @@ keyed_long : (keys : List ℕ) (es : List (ℕ × ℕ)) → length (keyed keys e
 keyed_long keys [] = refl
 keyed_long keys (e ∷ es) = ap suc (keyed_long keys es)
 
-get_inside : {X : Type 0} (xs : List X) (y : X) (i : ℕ) → slice_get xs i ≡ Some y → i < length xs
+pub get_inside : {X : Type 0} (xs : List X) (y : X) (i : ℕ) → slice_get xs i ≡ Some y → i < length xs
 get_inside [] y i e = absurd (cc)
 get_inside (z ∷ zs) y zero e = omega arith
 get_inside (z ∷ zs) y (suc i) e = omega (arith, get_inside zs y i e)
@@ -71,7 +71,7 @@ stands keys ts sink x h k has =
 row_count : (keys : List ℕ) (rows : List (List (ℕ × ℕ))) (k i : ℕ) → i ≡ number_in keys k → length (row_by keys rows k) ≡ length (row rows i)
 row_count keys rows k i is = ap (λ n. length (keyed keys (row rows n))) (sym is) ∙ keyed_long keys (row rows i)
 
-tells_at : (keys : List ℕ) (ts : List RawTask) (sink : ℕ) (x : Findings) → IsFound keys ts sink x → (i : ℕ) (u : RawTask) → i < length ts → u ≡ get_or ts i u → Tells keys (places_of u) (row (places_in x.links) i)
+pub tells_at : (keys : List ℕ) (ts : List RawTask) (sink : ℕ) (x : Findings) → IsFound keys ts sink x → (i : ℕ) (u : RawTask) → i < length ts → u ≡ get_or ts i u → Tells keys (places_of u) (row (places_in x.links) i)
 tells_at keys ts sink x h i u inside here = subst (λ v. Tells keys (places_of v) (row (places_in x.links) i)) (sym here) (h.named i u inside)
 
 pub places_inside : (keys : List ℕ) (ts : List RawTask) (sink : ℕ) (x : Findings) → IsFound keys ts sink x → (i j : ℕ) (e : ℕ × ℕ) → cell (places_in x.links) i j ≡ Some e → e.0 < length keys
@@ -88,7 +88,7 @@ succs_inside keys ts sink x h i j e at =
     omega (arith, cell_inside (places_in x.links) e.0 e.1 (i, j) (h.mirror.back i j e.0 e.1 at), rows_long x.links.places.items, h.places_len, keys_count ts keys h.keys_are)
 
 -- an entry of a row by keys, in the row by numbers
-entry : (keys : List ℕ) (rows : List (List (ℕ × ℕ))) (k j p q : ℕ) → slice_get (row_by keys rows k) j ≡ Some (p, q)
+pub entry : (keys : List ℕ) (rows : List (List (ℕ × ℕ))) (k j p q : ℕ) → slice_get (row_by keys rows k) j ≡ Some (p, q)
     → (e : ℕ × ℕ) × (cell rows (number_in keys k) j ≡ Some e) × (get_or keys e.0 0 ≡ p)
 entry keys rows k j p q at =
     let f : ℕ × ℕ → ℕ × ℕ = λ e. (get_or keys e.0 0, e.1) in

@@ -27,7 +27,8 @@ use Rattle.acyclic_audit.specs.Meaning.{IsInLimits, IsGraphOf, HasBlocks, IsDept
 use Rattle.acyclic_audit.specs.Meaning as meaning
 use Rattle.acyclic_audit.proofs.Lookups.{get_some, map_at, inputs_at, tree_in_at}
 use Rattle.acyclic_audit.proofs.Reached.{named_cell, cell_names}
-use Rattle.acyclic_audit.proofs.Laws.{get_is, places_inside}
+use Rattle.acyclic_audit.proofs.Laws.{get_is, places_inside, stands_key}
+use Rattle.acyclic_audit.proofs.Ports.{succs_of}
 
 -- ---- the task with number i
 
@@ -213,6 +214,9 @@ meaning_of keys ts sink x h = record {
   preds = λ i d inside.
       ap (λ m. map (λ e. e.0) (keyed keys (row (places_in x.links) m))) (sym (number_of_task keys ts i d h.keys_are h.ascending inside))
       ∙ names_told keys (places_of (get_or ts i d)) (row (places_in x.links) i) (h.named i d inside);
+  succs = λ i d inside.
+      succs_of keys ts sink x h (key_of (get_or ts i d))
+      (stands_key keys i (key_of (get_or ts i d)) (omega (arith, keys_count ts keys h.keys_are)) (sym (key_of_at ts keys i d h.keys_are inside)));
   inputs = λ i d inside. inputs_at keys ts (key_of (get_or ts i d)) i (get_or ts i d) (number_of_task keys ts i d h.keys_are h.ascending inside) inside (here_at ts i d inside);
   blocks = blocks_of keys ts sink x h;
   cells = λ b. refl;

@@ -11,7 +11,8 @@ use Rattle.audit_checks.specs.Accepted.{HasDistinctKeys, NamesTasks, HasFewPlace
 use Rattle.audit_checks.specs.Faults.{IsLeast, IsLeastPair, IsFirstUnknown, HasTask, StandsTwice, HasUnknown, HasManyPlaces, HasManyEdges, HasTwoWriters, LacksVersion, LacksOrder, ReadsLate, LacksInput, HasNames, HasSizes, HasVersions, IsFault}
 use Rattle.graph_model.specs.Graph.{Graph}
 use Rattle.audit_blocks.specs.Numbering.{HasPlace, is_own}
-use Rattle.acyclic_audit.specs.Meaning.{IsInLimits, IsGraphOf, HasBlocks, IsDepth, HasChain, start, below, own_before}
+use Rattle.acyclic_audit.specs.Meaning.{IsInLimits, IsGraphOf, AreSuccs, HasBlocks, IsDepth, HasChain, start, below, own_before}
+use Rattle.acyclic_audit.proofs.Ports.{succs_moved}
 use Rattle.audit_checks.specs.declared.fault.AuditFault.{AuditFault}
 use Rattle.audit_checks.specs.declared.fault.AuditFault.TheVariants.{DuplicateKey, UnknownKey, NoSink, TooManyPreds, TooManySuccs, Cycle, VersionTwice, VersionGap, VersionOrder, ReaderNotBefore, InputCount, OutOfMemory}
 
@@ -313,6 +314,9 @@ meaning_moved ts us sink g moved is = record {
   keys = IsPermutation-trans (keys_of us) (keys_of ts) g.keys (keys_moved us ts (IsPermutation-sym ts us moved)) is.keys;
   sink_is = is.sink_is;
   preds = All-permutation (λ t. map (λ e. e.0) (g.preds (key_of t)) ≡ places_of t) ts us moved is.preds;
+  succs = λ i d inside.
+      let k = key_of (get_or us i d) in
+      succs_moved ts us k (g.succs k) moved (All-permutation (λ t. AreSuccs ts (key_of t) (g.succs (key_of t))) ts us moved is.succs i d inside);
   inputs = All-permutation (λ t. g.inputs (key_of t) ≡ length t.inputs) ts us moved is.inputs;
   blocks = blocks_moved ts us g moved is.blocks;
   cells = is.cells;

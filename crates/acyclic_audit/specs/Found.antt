@@ -8,6 +8,7 @@ use Rattle.audit_checks.specs.Levels.{level}
 use Rattle.audit_checks.specs.Links.{Tells, Reverse, places_in, succs_in}
 use Rattle.audit_checks.specs.Chains.{HasRank}
 use Rattle.audit_checks.specs.ByKey.{row_by, IsReverseByKey}
+use Rattle.audit_checks.specs.Ports.{AreAscending}
 use Rattle.audit_blocks.specs.Numbering.{AreNumbered}
 use Rattle.audit_blocks.specs.Laws.{HasBlockLaws}
 use Rattle.acyclic_audit.specs.declared.findings.Findings.{Findings}
@@ -28,6 +29,7 @@ pub record IsFound (keys : List ℕ) (ts : List RawTask) (sink : ℕ) (x : Findi
   pub counted : (r : ℕ) → r < length keys → length (row (succs_in x.links) r) ≡ edge_count ts (slice_index keys r)
   pub mirror : Reverse x.links
   pub reverse : IsReverseByKey keys (row_by keys (places_in x.links)) (row_by keys (succs_in x.links))
+  pub ascending_ports : (k : ℕ) → AreAscending (row_by keys (succs_in x.links) k)
   pub levels_long : length x.levels.items ≡ length keys
   pub levels : (k : ℕ) → k < length keys → (0 < level x.levels.items k) × HasRank (places_in x.links) k (level x.levels.items k - 1)
   pub numbered : AreNumbered ts x.blocks.places.items x.blocks.count

@@ -6,10 +6,13 @@ use Rattle.audit_checks.specs.Tasks.{IsAscending}
 use Rattle.audit_checks.proofs.Keys.{times, same_key, times_take_yes, times_take_no}
 use Rattle.audit_checks.specs.Rows.{row, cell}
 use Rattle.audit_checks.specs.Links.{IsReverse, Tells}
+use Rattle.audit_checks.specs.Ports.{StandBefore}
 use Rattle.audit_checks.proofs.Mirror.{pushed, row_pushed, row_unpushed, reverse_pushed}
+use Rattle.audit_checks.proofs.PortOrder.{stand_pushed}
 
 pub record IsAdding (keys names : List ℕ) (places succs before base : List (List (ℕ × ℕ))) (n k j : ℕ) : Type 0 where
   pub reverse : IsReverse places succs
+  pub stand : StandBefore succs k j
   pub places_long : length places ≡ n
   pub succs_long : length succs ≡ n
   pub few : (p : ℕ) → length (row succs p) ≤ 40 * k + j
@@ -31,6 +34,7 @@ add_more keys names places succs before base n k j p q adding up more k_in p_in 
     let now : row (pushed places k (p, q)) k ≡ row places k ++ (p, q) ∷ [] = row_pushed places k (p, q) k_in' in
     record {
       reverse = reverse_pushed places succs k p j q k_in' p_in' (sym adding.here) q_is adding.reverse;
+      stand = stand_pushed succs p k j p_in' adding.stand;
       places_long = length-set places k (row places k ++ (p, q) ∷ []) ∙ adding.places_long;
       succs_long = length-set succs p (row succs p ++ (k, j) ∷ []) ∙ adding.succs_long;
       few = λ r. elim (cases_eq r p) [
@@ -88,4 +92,12 @@ pub no_edges : (n : ℕ) → IsReverse (replicate n []) (replicate n [])
 no_edges n = record {
   forth = λ c d a b e. absurd (let h : slice_get [] d ≡ Some (a, b) = ap (λ l. slice_get l d) (sym (empty_row n c)) ∙ e in cc);
   back = λ c d a b e. absurd (let h : slice_get [] d ≡ Some (a, b) = ap (λ l. slice_get l d) (sym (empty_row n c)) ∙ e in cc);
+}
+
+pub no_ports : (n : ℕ) → StandBefore (replicate n []) 0 0
+no_ports n = record {
+  ascending = λ p. record {
+    rises = λ q r e f less here there. absurd (let h : slice_get [] q ≡ Some e = ap (λ l. slice_get l q) (sym (empty_row n p)) ∙ here in cc);
+  };
+  earlier = λ p q e here. absurd (let h : slice_get [] q ≡ Some e = ap (λ l. slice_get l q) (sym (empty_row n p)) ∙ here in cc);
 }

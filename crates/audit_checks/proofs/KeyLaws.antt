@@ -23,12 +23,12 @@ get_map f [] i x e = absurd (cc)
 get_map f (y ∷ ys) zero x e = cc
 get_map f (y ∷ ys) (suc i) x e = get_map f ys i x e
 
-get_map_cases : {X Y : Type 0} (f : X → Y) (xs : List X) (i : ℕ) (y : Y) → slice_get (map f xs) i ≡ Some y → (x : X) × (slice_get xs i ≡ Some x) × (f x ≡ y)
+pub get_map_cases : {X Y : Type 0} (f : X → Y) (xs : List X) (i : ℕ) (y : Y) → slice_get (map f xs) i ≡ Some y → (x : X) × (slice_get xs i ≡ Some x) × (f x ≡ y)
 get_map_cases f [] i y e = absurd (cc)
 get_map_cases f (x ∷ xs) zero y e = (x, refl, cc)
 get_map_cases f (x ∷ xs) (suc i) y e = get_map_cases f xs i y e
 
-cell_inside : (rows : List (List (ℕ × ℕ))) (a b : ℕ) (e : ℕ × ℕ) → cell rows a b ≡ Some e → a < length rows
+pub cell_inside : (rows : List (List (ℕ × ℕ))) (a b : ℕ) (e : ℕ × ℕ) → cell rows a b ≡ Some e → a < length rows
 cell_inside [] a b e is = absurd (cc)
 cell_inside (r ∷ rs) zero b e is = omega arith
 cell_inside (r ∷ rs) (suc a) b e is = omega (arith, cell_inside rs a b e is)

@@ -20,7 +20,7 @@ get_cases [] x y (suc i) e = absurd (cc)
 get_cases (z ∷ zs) x y zero e = inl e
 get_cases (z ∷ zs) x y (suc i) e = elim (get_cases zs x y i e) [ inl before ↦ inl before | inr last ↦ inr (ap suc last.0, last.1) ]
 
-get_inside : {X : Type 0} (xs : List X) (y : X) (i : ℕ) → slice_get xs i ≡ Some y → i < length xs
+pub get_inside : {X : Type 0} (xs : List X) (y : X) (i : ℕ) → slice_get xs i ≡ Some y → i < length xs
 get_inside [] y i e = absurd (cc)
 get_inside (z ∷ zs) y zero e = omega arith
 get_inside (z ∷ zs) y (suc i) e = omega (arith, get_inside zs y i e)
@@ -45,7 +45,7 @@ cell_kept rows a b i x y inside e = elim (cases_eq b a) [
   | inr apart ↦ ap (λ l. slice_get l i) (row_unpushed rows a b x apart) ∙ e
 ]
 
-cell_cases : {X : Type 0} (rows : List (List X)) (a b i : ℕ) (x y : X) → a < length rows → cell (pushed rows a x) b i ≡ Some y
+pub cell_cases : {X : Type 0} (rows : List (List X)) (a b i : ℕ) (x y : X) → a < length rows → cell (pushed rows a x) b i ≡ Some y
     → (cell rows b i ≡ Some y) ⊎ ((b ≡ a) × (i ≡ length (row rows a)) × (x ≡ y))
 cell_cases rows a b i x y inside e = elim (cases_eq b a) [
   | inl same ↦ elim (get_cases (row rows a) x y i (ap (λ l. slice_get l i) (sym (row_pushed rows a x inside)) ∙ (ap (λ c. cell (pushed rows a x) c i) (sym same) ∙ e))) [

@@ -5,6 +5,7 @@ pub mod Counted
 pub mod Faults
 pub mod Levels
 pub mod Links
+pub mod Ports
 pub mod Rows
 pub mod Tasks
 pub mod Work

@@ -5,6 +5,7 @@ ghost use Rattle.audit_checks.specs.Accepted.{NamesTasks, HasFewPlaces};
 ghost use Rattle.audit_checks.specs.Rows.{row};
 ghost use Rattle.audit_checks.specs.ByKey.{IsReverseByKey, row_by};
 ghost use Rattle.audit_checks.specs.Links.{Reverse, HasFewPorts, Tells, places_in, succs_in};
+ghost use Rattle.audit_checks.specs.Ports.{AreAscending, StandBefore};
 
 use crate::rows::{empty_rows, push_at};
 use crate::tasks::{number_of, place, place_count};
@@ -52,6 +53,7 @@ fn add_task(links: &mut Links, keys: &[u64], tasks: &[RawTask], k: u32) -> Resul
     requires few { HasFewPorts (40 * k) links.old }
     requires empty { row (places_in links.old) k ≡ [] }
     requires reverse { Reverse links.old }
+    requires stand { StandBefore (succs_in links.old) k 0 }
     ensures places_len { vec_len links.new.places ≡ vec_len links.old.places }
     ensures succs_len { vec_len links.new.succs ≡ vec_len links.old.succs }
     ensures few { OnOk result (HasFewPorts (40 * (k + 1)) links.new) }
@@ -59,6 +61,7 @@ fn add_task(links: &mut Links, keys: &[u64], tasks: &[RawTask], k: u32) -> Resul
     ensures rest { OnOk result ((i : ℕ) → i ≢ k → row (places_in links.new) i ≡ row (places_in links.old) i) }
     ensures counted { OnOk result ((r : ℕ) (d : RawTask) → r < length keys.now → length (row (succs_in links.new) r) ≡ length (row (succs_in links.old) r) + count_by (λ p. p == slice_index keys.now r) (places_of (slice_index_or tasks.now k d))) }
     ensures reverse { OnOk result (Reverse links.new) }
+    ensures stand { OnOk result (StandBefore (succs_in links.new) (k + 1) 0) }
 {
     let task = &tasks[k as usize];
     for j in 0..place_count(task) {
@@ -81,6 +84,8 @@ pub fn links_of(alloc: Global, keys: &[u64], tasks: &[RawTask]) -> Result<Links,
     ensures counted { IfOk result (λ links. (r : ℕ) → r < length keys.now → length (row (succs_in links) r) ≡ edge_count tasks.now (slice_index keys.now r)) }
     ensures mirror { IfOk result (λ links. Reverse links) }
     ensures reverse { IfOk result (λ links. IsReverseByKey keys.now (row_by keys.now (places_in links)) (row_by keys.now (succs_in links))) }
+    // In ascending order of the successor's key, and then of the place there.
+    ensures ascending { IfOk result (λ links. (k : ℕ) → AreAscending (row_by keys.now (succs_in links) k)) }
 {
     let mut links = Links {
         places: empty_rows(alloc, tasks.len())?,

@@ -4,6 +4,7 @@ use Rattle.audit_checks.specs.Rows.{row}
 use Rattle.audit_checks.specs.Links.{places_in, succs_in}
 use Rattle.audit_checks.proofs.LeastTask.{known_place, keys_count}
 use Rattle.audit_checks.proofs.Adding.{add_more}
+use Rattle.audit_checks.proofs.PortOrder.{stand_next}
 use Rattle.audit_checks.proofs.links.add_task.Goals as goal
 
 pub number_of-p-requires-clause-known : goal.number_of-p-requires-clause-known
@@ -18,3 +19,6 @@ loop-j-preserved c =
     (length c.args.tasks.now) c.args.k c.loop-j.j c.number_of-p.result (length (row (succs_in c.loop-j.links) c.number_of-p.result)) c.loop-j.invariant
     c.requires.ascending (omega arith) c.requires.task (omega (arith, c.number_of-p.ensures.inside, keys_count c.args.tasks.now c.args.keys.now c.requires.keys))
     c.number_of-p.ensures.inside (c.number_of-p.ensures.key ∙ c.place.ensures) refl)
+
+pub returns-clause-stand : goal.returns-clause-stand
+returns-clause-stand c = stand_next (succs_in c.loop-j.links) c.args.k c.loop-j.j c.loop-j.invariant.stand

@@ -6,6 +6,7 @@ use Rattle.audit_checks.specs.Links.{Tells, places_in, succs_in}
 use Rattle.audit_checks.proofs.LeastTask.{some_task, keys_count}
 use Rattle.audit_checks.proofs.EdgeCounts.{edge_count_more}
 use Rattle.audit_checks.proofs.KeyLaws.{reverse_by_key}
+use Rattle.audit_checks.proofs.PortOrder.{ascending_by_key}
 use Rattle.audit_checks.proofs.RowLemmas.{rows_long}
 use Rattle.audit_checks.proofs.links.links_of.Goals as goal
 
@@ -24,6 +25,7 @@ loop-k-preserved c =
         | inr late ↦ let e : c.loop-k.k ≡ i = omega arith in
             subst (λ m. Tells c.args.keys.now (places_of (get_or c.args.tasks.now m d)) (row (places_in c.add_task.new.links) m)) e (c.in_ok-add_task.ensures.here d)
       ]),
+      c.in_ok-add_task.ensures.stand,
     )
 
 pub returns-clause-reverse : goal.returns-clause-reverse
@@ -31,3 +33,8 @@ returns-clause-reverse c =
     let keys_long = keys_count c.args.tasks.now c.args.keys.now c.requires.keys in
     reverse_by_key c.args.keys.now (places_in c.loop-k.links) (succs_in c.loop-k.links) c.requires.ascending
     (omega (arith, rows_long c.loop-k.links.places.items, c.loop-k.invariant.2, keys_long)) (omega (arith, rows_long c.loop-k.links.succs.items, c.loop-k.invariant.3, keys_long)) c.loop-k.invariant.0
+
+pub returns-clause-ascending : goal.returns-clause-ascending
+returns-clause-ascending c =
+    ascending_by_key c.args.keys.now (places_in c.loop-k.links) (succs_in c.loop-k.links) c.requires.ascending
+    (omega (arith, rows_long c.loop-k.links.places.items, c.loop-k.invariant.2, keys_count c.args.tasks.now c.args.keys.now c.requires.keys)) c.loop-k.invariant.0 c.loop-k.invariant.7.ascending
