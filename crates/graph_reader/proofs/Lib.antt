@@ -3,6 +3,7 @@ pub mod Among
 pub mod Built
 pub mod Counted
 pub mod Depth
+pub mod Escapes
 pub mod Fits
 pub mod Floats
 pub mod Members

@@ -1,6 +1,7 @@
 -- Faults, and how those of a part are seen from the whole.
 use Rattle.std.specs.Prelude.{◌≡◌, ◌⊎◌, ℕ, List, [], ◌∷◌, ◌++◌, Option, None, Some, Result, Ok, Err, option_map}
 use Rattle.std.specs.Option.{option_or}
+use Rattle.graph_reader.specs.Shown.{shown_name}
 use Rattle.graph_reader.specs.declared.fault.TextFault.{TextFault}
 use Rattle.graph_reader.specs.declared.fault.TextFault.TheVariants.{NotJson, Shape, Range, Formula, TooManyTasks, Version, OutOfMemory}
 
@@ -12,10 +13,10 @@ shape = Shape []
 abbrev pub range : TextFault
 range = Range []
 
--- a slash and the part's name or position go before the path
+-- a slash and the part's name, as a path shows it, or position go before the path
 abbrev pub under : List ℕ → TextFault → TextFault
-under part (Shape path) = Shape (47 ∷ (part ++ path))
-under part (Range path) = Range (47 ∷ (part ++ path))
+under part (Shape path) = Shape (47 ∷ (shown_name part ++ path))
+under part (Range path) = Range (47 ∷ (shown_name part ++ path))
 under part NotJson = NotJson
 under part (Formula task fault) = Formula task fault
 under part TooManyTasks = TooManyTasks

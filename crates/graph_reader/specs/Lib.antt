@@ -4,4 +4,5 @@ pub mod Content
 pub mod Faults
 pub mod Format
 pub mod Names
+pub mod Shown
 pub mod Written

@@ -7,6 +7,7 @@ mod fields;
 mod kinds;
 mod names;
 mod read;
+mod shown;
 mod strikes;
 mod tasks;
 mod write;

@@ -16,7 +16,7 @@ fn brackets(alloc: Global, count: u32) -> Result<String, Fail> {
     Ok(text)
 }
 
-const TEXTS: [(&str, &str); 15] = [
+const TEXTS: [(&str, &str); 16] = [
     ("", "not JSON"),
     (r#"{"version":1,"sink":1e400,"tasks":[]}"#, "not JSON"),
     ("[]", "bad shape at "),
@@ -39,6 +39,7 @@ const TEXTS: [(&str, &str); 15] = [
         r#"{"version":2,"sink":1,"tasks":[],"x":1}"#,
         "unknown version",
     ),
+    (r#"{"version":2,"sink":1,"tasks":[]}"#, "unknown version"),
     (
         r#"{"version":1,"sink":-1,"tasks":[],"x":1,"a":1}"#,
         "bad shape at /a",
@@ -77,6 +78,37 @@ fn whole_texts(rt: HostRuntime) -> Result<(), Fail> {
     // A byte that stands in no text.
     let end = answer_on(&rt, rt.alloc(), "run", &[255])?;
     assert!(rt; end.is(5, "not JSON", ""));
+    Ok(())
+}
+
+// Names that the format hasn't, as JSON writes them, and as a path shows them.
+const NAMES: [(&str, &str); 8] = [
+    (r#"line\nfeed"#, r#"line\u000afeed"#),
+    (r#"\u001b[2J"#, r#"\u001b[2J"#),
+    (r#"say \"no\""#, r#"say \"no\""#),
+    (r#"back\\slash"#, r#"back\\slash"#),
+    (r#"\u007f\u0085\u009f"#, r#"\u007f\u0085\u009f"#),
+    // All others stand as they are.
+    ("caf\u{e9} \u{a0}", "caf\u{e9} \u{a0}"),
+    ("a/b~c", "a/b~c"),
+    (r#"\u0000\t\r"#, r#"\u0000\u0009\u000d"#),
+];
+
+#[test]
+fn names_in_paths(rt: HostRuntime) -> Result<(), Fail> {
+    let alloc = rt.alloc();
+    for (name, shown) in NAMES {
+        let whole = format!(in alloc; "{{\"version\":1,\"sink\":1,\"tasks\":[],\"{name}\":1}}")?;
+        let refusal = format!(in alloc; "bad shape at /{shown}")?;
+        compare(&rt, alloc, ("run", whole.as_str(), 5, refusal.as_str(), ""))?;
+        let task = format!(in alloc; "{{\"version\":1,\"sink\":1,\"tasks\":[{{\"{name}\":1}}]}}")?;
+        let refusal = format!(in alloc; "bad shape at /tasks/0/{shown}")?;
+        compare(
+            &rt,
+            alloc,
+            ("print", task.as_str(), 5, refusal.as_str(), ""),
+        )?;
+    }
     Ok(())
 }
 

@@ -51,7 +51,8 @@ fn probes_of(alloc: Global) -> Result<Vec<ListProbe>, AllocError> {
     Ok(probes)
 }
 
-fn words_of(alloc: Global, line: &str) -> Result<Vec<String>, AllocError> {
+/// The words of a line.
+pub(crate) fn words_of(alloc: Global, line: &str) -> Result<Vec<String>, AllocError> {
     let mut words = Vec::new(alloc);
     for word in line.split_ascii_whitespace() {
         words.push(String::from_str(alloc, word)?)?;

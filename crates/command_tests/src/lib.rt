@@ -4,6 +4,8 @@
 #[cfg(test)]
 mod broken;
 #[cfg(test)]
+mod checks;
+#[cfg(test)]
 mod command;
 #[cfg(test)]
 mod edges;

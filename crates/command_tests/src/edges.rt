@@ -77,12 +77,13 @@ fn reader_of_std(rt: HostRuntime) -> Result<(), Fail> {
     Ok(())
 }
 
-// Takes few bytes a call, and counts how often it is flushed.
+// Takes few bytes a call, and counts how often it is flushed. The first flushes are interrupted.
 #[derive(Drop)]
 struct Taker {
     held: Vec<u8>,
     per_call: usize,
     flushes: u32,
+    interruptions: u32,
 }
 
 impl Write for Taker {
@@ -94,6 +95,9 @@ impl Write for Taker {
 
     fn flush(&mut self) -> IoResult<()> {
         self.flushes = self.flushes.saturating_add(1);
+        if self.flushes <= self.interruptions {
+            return Err(ErrorKind::Interrupted.into());
+        }
         Ok(())
     }
 }
@@ -112,12 +116,33 @@ fn writer_of_std(rt: HostRuntime) -> Result<(), Fail> {
             held: Vec::new(rt.alloc()),
             per_call,
             flushes: 0,
+            interruptions: 0,
         };
         let mut sink = StdSink::new(interrupted(&mut taker, times));
         let result = write_all(&mut sink, b"seven!");
         assert_eq!(rt; result.is_ok(), goes, "{times}");
         drop(sink);
         assert_eq!(rt; taker.held.as_slice(), held.as_bytes());
+        assert_eq!(rt; taker.flushes, flushes);
+    }
+    Ok(())
+}
+
+// A flush that is interrupted is tried again by itself: what was written is not written again.
+#[test]
+fn flush_of_std(rt: HostRuntime) -> Result<(), Fail> {
+    for (interruptions, goes, flushes) in [(1, true, 2), (64, true, 65), (65, false, 65)] {
+        let mut taker = Taker {
+            held: Vec::new(rt.alloc()),
+            per_call: 6,
+            flushes: 0,
+            interruptions,
+        };
+        let mut sink = StdSink::new(&mut taker);
+        let result = write_all(&mut sink, b"seven!");
+        assert_eq!(rt; result.is_ok(), goes, "{interruptions}");
+        drop(sink);
+        assert_eq!(rt; taker.held.as_slice(), b"seven!".as_slice());
         assert_eq!(rt; taker.flushes, flushes);
     }
     Ok(())

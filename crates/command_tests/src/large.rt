@@ -134,6 +134,17 @@ fn deep_formula(alloc: Global) -> Result<String, AllocError> {
     draft.finish()
 }
 
+// One task whose formula is so many spaces.
+fn blank_formula(alloc: Global, count: usize) -> Result<String, AllocError> {
+    let mut formula = String::new(alloc);
+    for _ in 0..count {
+        formula.push(' ')?;
+    }
+    let mut draft = Draft::new(alloc, 1)?;
+    draft.add(alloc, 1, formula.as_str(), &[])?;
+    draft.finish()
+}
+
 // So many tasks without a key.
 fn empty_tasks(alloc: Global, count: u32) -> Result<String, AllocError> {
     let mut text = String::from_str(alloc, "{\"version\":1,\"sink\":1,\"tasks\":[{}")?;
@@ -161,6 +172,18 @@ fn limits_of_graphs(rt: HostRuntime) -> Result<(), Fail> {
         (chain(alloc)?, 0, "", "value 16384\n"),
         (long_formula(alloc)?, 0, "", "value 2000\n"),
         (deep_formula(alloc)?, 0, "", "value 1\n"),
+        (
+            blank_formula(alloc, 4096)?,
+            5,
+            "formula of task 1: ends too early",
+            "",
+        ),
+        (
+            blank_formula(alloc, 4097)?,
+            5,
+            "formula of task 1: longer than 4096 bytes",
+            "",
+        ),
         (
             empty_tasks(alloc, 16384)?,
             5,
