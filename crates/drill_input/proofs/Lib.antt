@@ -1,0 +1,14 @@
+pub mod Listed
+pub mod Texts
+pub mod Rows
+pub mod Places
+pub mod Blocks
+pub mod Windows
+pub mod Accepting
+pub mod Building
+pub mod Limits
+pub mod Sums
+pub mod RowValues
+pub mod Serially
+pub mod Reaching
+pub mod Joining
