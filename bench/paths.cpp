@@ -16,12 +16,12 @@
 
 // A slice of Rattle's crosses as a pointer and a length.
 extern "C" {
-void paths_c_min_plus(int64_t* out, size_t out_length, const int64_t* a, size_t a_length, const int64_t* b,
+void bench_paths_min_plus(int64_t* out, size_t out_length, const int64_t* a, size_t a_length, const int64_t* b,
                       size_t b_length, size_t side);
-void paths_c_min_plus_plain(int64_t* out, size_t out_length, const int64_t* a, size_t a_length, const int64_t* b,
+void bench_paths_min_plus_plain(int64_t* out, size_t out_length, const int64_t* a, size_t a_length, const int64_t* b,
                             size_t b_length, size_t side);
-void paths_c_close_tile(int64_t* out, size_t out_length, size_t side);
-uint64_t paths_c_read_matrix(const uint8_t* text, size_t length);
+void bench_paths_close_tile(int64_t* out, size_t out_length, size_t side);
+uint64_t bench_paths_read_matrix(const uint8_t* text, size_t length);
 }
 
 namespace {
@@ -265,9 +265,9 @@ void kernels(int rounds) {
   Tile ours = old, plain = old, rows = old, lanes = old, walk = old;
   const size_t length = side * side;
   std::vector<Candidate> all{
-      {"min_plus", [&] { paths_c_min_plus(ours.data(), length, a.data(), length, b.data(), length, side); }, {}},
-      {"min_plus_plain", [&] { paths_c_min_plus_plain(ours.data(), length, a.data(), length, b.data(), length, side); }, {}},
-      {"close_tile", [&] { paths_c_close_tile(walk.data(), length, side); }, {}},
+      {"min_plus", [&] { bench_paths_min_plus(ours.data(), length, a.data(), length, b.data(), length, side); }, {}},
+      {"min_plus_plain", [&] { bench_paths_min_plus_plain(ours.data(), length, a.data(), length, b.data(), length, side); }, {}},
+      {"close_tile", [&] { bench_paths_close_tile(walk.data(), length, side); }, {}},
       {"C++ plain loop, saturating", [&] { plain_min_plus(plain.data(), a.data(), b.data(), side); }, {}},
       {"C++ by rows, compiler's lanes", [&] { row_min_plus(rows.data(), a.data(), b.data(), side); }, {}},
       {"C++ by hand, SSE4.2 intrinsics", [&] { lane_min_plus(lanes.data(), a.data(), b.data(), side); }, {}},
@@ -297,11 +297,11 @@ std::string matrix_of(size_t n, uint64_t greatest, unsigned missing) {
 void reading(int rounds, const char* what, const std::string& text) {
   const auto* bytes = reinterpret_cast<const uint8_t*>(text.data());
   const uint64_t sum = sum_of(read_matrix(text));
-  must(sum != 0 && sum == sum_of(read_in_one_pass(text)) && sum == paths_c_read_matrix(bytes, text.size()),
+  must(sum != 0 && sum == sum_of(read_in_one_pass(text)) && sum == bench_paths_read_matrix(bytes, text.size()),
        "sums of weights");
   volatile uint64_t kept = 0;
   std::vector<Candidate> all{
-      {"read_matrix", [&] { kept = paths_c_read_matrix(bytes, text.size()); }, {}},
+      {"read_matrix", [&] { kept = bench_paths_read_matrix(bytes, text.size()); }, {}},
       {"C++ careful, by lines and words", [&] { kept = sum_of(read_matrix(text)); }, {}},
       {"C++ careful, in one pass", [&] { kept = sum_of(read_in_one_pass(text)); }, {}},
   };

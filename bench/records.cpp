@@ -1,5 +1,5 @@
 // The yardstick of the report: the same records, sorted by std::sort with the same key, and written
-// into one buffer. It prints the same line as the program records_speed, and the least time of the
+// into one buffer. It prints the same line as the program bench_records, and the least time of the
 // rounds on standard error.
 #include <algorithm>
 #include <charconv>

@@ -9,9 +9,9 @@ count=${1:-1000000} turns=${2:-7}
 work=$(mktemp -d)
 trap 'rm -rf "$work"' EXIT
 "${CXX:-clang++}" -O2 -std=c++17 -o "$work/peer" bench/records.cpp
-(cd crates/records_speed && rt run -- 100 1 >"$work/build" 2>&1) || { cat "$work/build"; exit 1; }
+(cd crates/bench_records && rt run -- 100 1 >"$work/build" 2>&1) || { cat "$work/build"; exit 1; }
 for ((turn = 0; turn < turns; turn++)); do
-    crates/records_speed/out/records_speed "$count" 3 >"$work/ours" 2>"$work/ours.ms"
+    crates/bench_records/out/bench_records "$count" 3 >"$work/ours" 2>"$work/ours.ms"
     "$work/peer" "$count" 3 >"$work/theirs" 2>"$work/theirs.ms"
     cmp "$work/ours" "$work/theirs"
     echo "$(tail -n 1 "$work/ours.ms") $(tail -n 1 "$work/theirs.ms")"

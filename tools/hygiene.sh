@@ -1,5 +1,5 @@
 #!/usr/bin/env bash
-# Rules that no proof keeps: the handles' line, the lengths of files, and that the repository stands alone.
+# Rules that no proof keeps: the handles' line, sizes of files and folders, pages, and that the repository stands alone.
 set -u
 cd "$(dirname "${BASH_SOURCE[0]}")/.." || exit 1
 failed=0
@@ -15,6 +15,14 @@ expect_none() {
 
 long=$(find crates -path '*/out' -prune -o \( -name '*.rt' -o -name '*.antt' \) -print0 | xargs -0 wc -l | awk '$2 != "total" && $1 > 800')
 expect_none "Files above 800 lines:" "$long"
+
+full=$(git ls-files 'crates/*/proofs/*' | sed 's|/[^/]*$||' | sort | uniq -c | awk '$1 > 40')
+expect_none "Folders of proofs with more than 40 files:" "$full"
+
+bare=$(for crate in crates/*/; do [ -s "${crate}README.md" ] || echo "$crate"; done)
+expect_none "Crates without a page, README.md:" "$bare"
+
+expect_none "Pages:" "$(tools/pages.py 2>&1)"
 
 cites=$(git grep -nIE '(^|[^A-Za-z0-9_])(R[0-9]{1,2}|T[1-5]\.[0-9]|D[0-9]{1,2}|W[0-9]{1,2}|K[0-9]{1,2}|[Dd]ocument 0[1-4]|0[1-4]-(scope|theorems|requests|formats))($|[^A-Za-z0-9_])' -- '*.md' '*.rt' '*.antt' '*.edit' '*.sh' '*.cpp' '*.py' '*.txt' run test .ci/run)
 expect_none "Lines that cite a paper by number:" "$cites"

@@ -7,7 +7,7 @@ ghost use Rattle.lane_kernels.specs.MinPlus.{IsNonNegative};
 use std::alloc::Global;
 
 #[unsafe(no_mangle)]
-pub extern "C" fn paths_c_min_plus(out: &mut [i64], a: &[i64], b: &[i64], side: usize)
+pub extern "C" fn bench_paths_min_plus(out: &mut [i64], a: &[i64], b: &[i64], side: usize)
     requires from_one { 1 ≤ side }
     requires to_32 { side ≤ 32 }
     requires square { length out.old ≡ side * side }
@@ -21,7 +21,7 @@ pub extern "C" fn paths_c_min_plus(out: &mut [i64], a: &[i64], b: &[i64], side: 
 }
 
 #[unsafe(no_mangle)]
-pub extern "C" fn paths_c_min_plus_plain(out: &mut [i64], a: &[i64], b: &[i64], side: usize)
+pub extern "C" fn bench_paths_min_plus_plain(out: &mut [i64], a: &[i64], b: &[i64], side: usize)
     requires from_one { 1 ≤ side }
     requires to_32 { side ≤ 32 }
     requires square { length out.old ≡ side * side }
@@ -35,7 +35,7 @@ pub extern "C" fn paths_c_min_plus_plain(out: &mut [i64], a: &[i64], b: &[i64], 
 }
 
 #[unsafe(no_mangle)]
-pub extern "C" fn paths_c_close_tile(out: &mut [i64], side: usize)
+pub extern "C" fn bench_paths_close_tile(out: &mut [i64], side: usize)
     requires from_one { 1 ≤ side }
     requires to_32 { side ≤ 32 }
     requires square { length out.old ≡ side * side }
@@ -46,7 +46,7 @@ pub extern "C" fn paths_c_close_tile(out: &mut [i64], side: usize)
 
 /// Reads a matrix, and adds up its weights, so that no reading can be left out. It is 0 where there is a fault.
 #[unsafe(no_mangle)]
-pub extern "C" fn paths_c_read_matrix(alloc: Global, text: &[u8]) -> u64
+pub extern "C" fn bench_paths_read_matrix(alloc: Global, text: &[u8]) -> u64
     requires { length text.now ≤ 67108864 }
 {
     let Ok((graph, _)) = apsp_graph::read_matrix(alloc, text) else {
