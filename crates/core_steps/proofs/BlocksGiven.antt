@@ -7,7 +7,7 @@ use Rattle.core_state.specs.Words.{place_of, turn}
 use Rattle.core_state.specs.Counts.{hit, count, in_hand, total_of}
 use Rattle.core_state.specs.Tests.{is_hand}
 use Rattle.core_state.specs.Change.{block_of, cells_or, held_in, no_cells}
-use Rattle.core_state.specs.Guards.{CanGiveWritten, InHand, flipped}
+use Rattle.core_state.specs.Guards.{InHand, flipped}
 use Rattle.core_state.specs.Events.{Event, at, left, after, Can, block_left, block_was}
 use Rattle.core_state.specs.Events.Event.{give_read, give_written, give_struck}
 use Rattle.core_state.specs.Outcome.{entries}
@@ -18,17 +18,18 @@ use Rattle.graph_model.specs.declared.record.Record.{Record}
 use Rattle.core_state.proofs.Base.Counting.{eqb_here, not_here}
 use Rattle.core_state.proofs.Lines.Entries.{records_entered}
 use Rattle.core_state.proofs.Blocks.Home.{hand_left}
-use Rattle.core_state.proofs.Base.Sums.{total_set, total_within}
-use Rattle.core_state.proofs.Blocks.AtWork.{key_row}
+use Rattle.core_state.proofs.Base.Sums.{total_set}
+use Rattle.core_steps.proofs.AnyBlock.{hand_some, held_once, value_sized}
+use Rattle.core_steps.proofs.AtPlain.{at_plain}
 use Rattle.core_steps.proofs.BlocksMoved.{held_one, turn_stands}
 use Rattle.core_steps.proofs.Changing.{elem_at}
-use Rattle.core_steps.proofs.Inside.{hand_some, held_low}
+use Rattle.core_steps.proofs.Inside.{held_low}
 use Rattle.core_steps.proofs.Rooting.{none_held}
-use Rattle.core_steps.proofs.Sounding.{Stands, sound_entered, sums_of}
+use Rattle.core_steps.proofs.Sounding.{Stands, sound_entered}
 use Rattle.core_steps.proofs.TableSteps.{table_step}
 use Rattle.core_steps.specs.Kinds.{block_event, gives}
 use Rattle.core_steps.specs.Seat.{cells_in, hand_of}
-use Rattle.core_steps.specs.Table.{Plain, view_at, home_at, core_by, as_list, entered, given_by, IsSound, IsTableStep, IsWordAt}
+use Rattle.core_steps.specs.Table.{Plain, view_at, home_at, as_list, entered, given_by, IsSound, IsTableStep, IsWordAt}
 use Rattle.core_steps.specs.declared.kinds.BlockKind.{BlockKind}
 use Rattle.core_steps.specs.declared.kinds.Touched.{Touched}
 use Rattle.core_steps.specs.declared.kinds.BlockKind.TheVariants.{TakeTurn, GiveRead, GiveWritten, GiveStruck}
@@ -41,15 +42,14 @@ module _ (e : Setting) (p : Plain) (i : ℕ) (low : i < length p.views) (s : IsS
   pub hand_low : b < p.shape.blocks
   hand_low = held_low e p i b low s (hand_some b was (view_at p i) hand)
 
-  pub once : total_of p.views (in_hand b) ≡ 1
-  once = let a = total_within p.views i (view_at p i) (in_hand b) (elem_at p.views i blank low) in let f = hand_some b was (view_at p i) hand in
-      let g = (s.holds.blocks.each b (subst (λ h. b < h.blocks) s.shape_is hand_low)).once in omega (arith, a, f, g)
+  in_one_hand : total_of p.views (in_hand b) ≡ 1
+  in_one_hand = held_once (at_plain e p i low s) b was hand (subst (λ h. b < h.blocks) s.shape_is hand_low)
 
   -- the table has the block as it was taken
   pub was_is : block_of (home_at p.blocks) p.views b ≡ was
   unfolding block_of
   was_is = ap (cells_or (home_at p.blocks b)) (held_one b p.views i (view_at p i) was (elem_at p.views i blank low)
-      (ap (held_in b) hand.hands_are ∙ ap (λ (y : Bool). cond y (some was) (held_in b hand.others)) (eqb_here b)) (let a = once in let f = hand_some b was (view_at p i) hand in omega (arith, a, f)))
+      (ap (held_in b) hand.hands_are ∙ ap (λ (y : Bool). cond y (some was) (held_in b hand.others)) (eqb_here b)) (let a = in_one_hand in let f = hand_some b was (view_at p i) hand in omega (arith, a, f)))
 
   pub was_sized : length was.cells ≡ e.graph.cells b
   was_sized = sym (ap (λ (x : BlockCells). length x.cells) was_is) ∙ s.housed.sized b hand_low
@@ -57,7 +57,7 @@ module _ (e : Setting) (p : Plain) (i : ℕ) (low : i < length p.views) (s : IsS
   -- the view gives its last block back, which holds this now
   module _ (w : View) (now : BlockCells) (gone : w.hands ≡ without_first (view_at p i).hands) where
     pub none_has : total_of (set p.views i w) (in_hand b) ≡ 0
-    none_has = let a = total_set p.views i (view_at p i) w (in_hand b) (elem_at p.views i blank low) in let f = once in let g = hand_left b b was (view_at p i) hand in let h = ap hit (eqb_here b) in
+    none_has = let a = total_set p.views i (view_at p i) w (in_hand b) (elem_at p.views i blank low) in let f = in_one_hand in let g = hand_left b b was (view_at p i) hand in let h = ap hit (eqb_here b) in
         let o : in_hand b w ≡ count (is_hand b) (without_first (view_at p i).hands) = ap (count (is_hand b)) gone in omega (arith, a, f, g, h, o)
 
     pub now_is : block_of (home_at (set p.blocks b (Some now))) (set p.views i w) b ≡ now
@@ -77,12 +77,6 @@ module _ (e : Setting) (p : Plain) (i : ℕ) (low : i < length p.views) (s : IsS
     given_stands x n spot is zero after_is can fits held put = turn_stands e p i low s b hand_low w (Some now) others x n 0 spot is zero after_is can
         record { at_home = λ y q. none_has; away = λ q. absurd cc; sized = ap (λ (y : BlockCells). length y.cells) now_is ∙ fits } (was_is ∙ sym held) (now_is ∙ sym put)
 
-module _ (e : Setting) (p : Plain) (i : ℕ) (low : i < length p.views) (s : IsSound e p) (k l b : ℕ) (was now : BlockCells) (can : CanGiveWritten e (view_at p i) k l b was now) where
-  pub value_sized : length now.cells ≡ e.graph.cells b
-  value_sized = let row = key_row e (core_by p.shape p.words p.blocks p.views) (sums_of p) k l can.read true (view_at p i) can.at_work
-      (λ f. total_within p.views i (view_at p i) f (elem_at p.views i blank low)) s.holds in
-      ap length can.cells_are ∙ s.setting.value_fits k (s.holds.keys.reached row.0 k row.1) ∙ ap e.graph.cells (sym can.block_is)
-
 -- the number of a turn word, as each giving finds it
 abbrev turn_number : Plain → ℕ → ℕ
 turn_number p b = get_or p.words (place_of p.shape (turn b)) 0
@@ -97,7 +91,7 @@ sound_given e p i low s GiveRead b x y given can is = let v : View = view_at p i
     y (records_entered e (give_read b x) n v w refl ∙ ap (λ rs. rs ++ v.records) is)
 sound_given e p i low s (GiveWritten k l) b x y given can is = let v : View = view_at p i in let n : ℕ = turn_number p b in let was : BlockCells = hand_of v b in let w : View = after e (give_written k l b was x) n v in
     sound_entered e p i w (set p.words (place_of p.shape (turn b)) 0) (set p.blocks b (Some x)) s low
-    (given_stands e p i low s b was can.hand w x refl (give_written k l b was x) n refl refl refl refl can (value_sized e p i low s k l b was x can) refl refl)
+    (given_stands e p i low s b was can.hand w x refl (give_written k l b was x) n refl refl refl refl can (value_sized (at_plain e p i low s) b k l was x can) refl refl)
     y (records_entered e (give_written k l b was x) n v w refl ∙ ap (λ rs. rs ++ v.records) is)
 sound_given e p i low s (GiveStruck k l) b x y given can is = let v : View = view_at p i in let n : ℕ = turn_number p b in let was : BlockCells = hand_of v b in let w : View = after e (give_struck k l b was x) n v in
     sound_entered e p i w (set p.words (place_of p.shape (turn b)) 0) (set p.blocks b (Some x)) s low

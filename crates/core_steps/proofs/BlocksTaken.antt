@@ -1,5 +1,5 @@
 -- Taking a block keeps a plain table sound.
-use Rattle.std.proofs.Common.{◌≡◌, ◌≢◌, ℕ, ◌+◌, ◌<◌, Bool, false, cond, ne_eqb, length, get_or, set, length-set, get_or-set_same, arith, sym, ap, refl, ◌∙◌, subst, Option, Some, None}
+use Rattle.std.proofs.Common.{◌≡◌, ℕ, ◌+◌, ◌<◌, Bool, false, cond, ne_eqb, length, get_or, set, length-set, get_or-set_same, arith, sym, ap, refl, ◌∙◌, subst, Option, Some, None}
 use mathlib.Core.Option.{some}
 use Rattle.core_state.specs.Graph.{Setting}
 use Rattle.core_state.specs.Words.{place_of, turn}
@@ -29,10 +29,6 @@ module _ (e : Setting) (p : Plain) (i : ℕ) (low : i < length p.views) (s : IsS
 
   pub turn_word : get_or p.words (place_of p.shape (turn b)) 0 ≡ total_of p.views (in_hand b)
   turn_word = sym (read_at p.shape p.words (turn b) (turn_inside e p i low s b in_table)) ∙ (s.holds.blocks.each b can.low).taken
-
-  -- a word that is not 0 is 1
-  pub turn_one : get_or p.words (place_of p.shape (turn b)) 0 ≢ 0 → get_or p.words (place_of p.shape (turn b)) 0 ≡ 1
-  turn_one ne = let a = turn_word in let f = (s.holds.blocks.each b can.low).once in omega (arith, a, f, ne)
 
   -- nobody has the block
   module _ (free : get_or p.words (place_of p.shape (turn b)) 0 ≡ 0) where

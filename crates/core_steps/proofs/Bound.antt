@@ -4,7 +4,7 @@ use mathlib.Core.Logic.{dite}
 use native.Mathlib.Decide.{ℕ_discrete, dec_lt}
 use Rattle.core_state.specs.Graph.{Setting, Sound, greatest_life}
 use Rattle.core_state.specs.Words.{Spot, pending, key, descriptor, recovery, posted, life_of, standing_life, replacing}
-use Rattle.core_state.specs.Counts.{hit, bump, count, items, in_stacks, owed, held, ended, begun, came, stack_count, spare, too_many, total_of}
+use Rattle.core_state.specs.Counts.{hit, bump, count, items, in_stacks, owed, held, ended, begun, came, stack_count, spare, too_many}
 use Rattle.core_state.specs.Tests.{two, same_job, is_at, is_owe, is_owed, carries, came_with}
 use Rattle.core_state.specs.Change.{Core, Sums}
 use Rattle.core_state.specs.Rows.{HasKey, HasRow}
@@ -40,6 +40,12 @@ unfolding sum_upto
 sum_most zero m f h = omega arith
 sum_most (suc n) m f h = let a = sum_most n m f (λ c l. h c (omega (arith, l))) in let b = h n (omega arith) in omega (arith, a, b)
 
+-- a sum of sums over views
+sum_total : (s : Core) → Sums s → (n : ℕ) (f : ℕ → View → ℕ) → s.total (λ v. sum_upto n (λ c. f c v)) ≡ sum_upto n (λ c. s.total (f c))
+unfolding sum_upto
+sum_total s sums zero f = dite (ℕ_discrete (s.total (λ v. 0)) 0) (λ z. z) (λ ne. absurd (let a = (sums.some (λ v. 0) (omega (arith, ne))).1 in omega (arith, a)))
+sum_total s sums (suc n) f = sums.add (λ v. sum_upto n (λ c. f c v)) (f n) ∙ ap (λ m. m + s.total (f n)) (sum_total s sums n f)
+
 module _ (rows lives : ℕ) where
   grid : (ℕ → ℕ → ℕ) → ℕ
   grid f = sum_upto rows (λ r. sum_upto lives (f r))
@@ -55,6 +61,10 @@ module _ (rows lives : ℕ) where
   grid_most : (f : ℕ → ℕ → ℕ) (m : ℕ) → ((r l : ℕ) → f r l ≤ m) → grid f ≤ rows * (lives * m)
   unfolding grid
   grid_most f m h = sum_most rows (lives * m) (λ r. sum_upto lives (f r)) (λ r low. sum_most lives m (f r) (λ l low. h r l))
+
+  grid_total : (s : Core) → Sums s → (f : ℕ → ℕ → View → ℕ) → s.total (λ v. grid (λ r l. f r l v)) ≡ grid (λ r l. s.total (f r l))
+  unfolding grid
+  grid_total s sums f = sum_total s sums rows (λ r v. sum_upto lives (λ l. f r l v)) ∙ (λ j. sum_upto rows (λ r. sum_total s sums lives (f r) j))
 
   module _ (key_in : ℕ → ℕ) where
     -- the key has a row, and the life is one of a row
@@ -97,19 +107,21 @@ module _ (rows lives : ℕ) where
         itself Explore k l = two_here k l
         itself Compute k l = two_here k l
 
-    -- the same over all views
-    over : (f : View → ℕ) (n : Job → ℕ → ℕ → View → ℕ) → ((v : View) → ((j : Job) (k l : ℕ) → 0 < n j k l v → Good k l) → f v ≤ grid (λ r l. n Explore (key_in r) l v + n Compute (key_in r) l v))
-        → (vs : List View) → ((j : Job) (k l : ℕ) → 0 < total_of vs (n j k l) → Good k l) → total_of vs f ≤ grid (λ r l. total_of vs (n Explore (key_in r) l) + total_of vs (n Compute (key_in r) l))
-    unfolding total_of
-    over f n each [] good = omega arith
-    over f n each (v ∷ vs) good = let a = each v (λ j k l z. good j k l (omega (arith, z))) in let b = over f n each vs (λ j k l z. good j k l (omega (arith, z))) in
-        let c = grid_more (λ r l. n Explore (key_in r) l v + n Compute (key_in r) l v) (λ r l. total_of vs (n Explore (key_in r) l) + total_of vs (n Compute (key_in r) l)) (λ r l. n Explore (key_in r) l v + total_of vs (n Explore (key_in r) l) + (n Compute (key_in r) l v + total_of vs (n Compute (key_in r) l))) (λ r l. omega arith) in omega (arith, a, b, c)
+    module _ (s : Core) (sums : Sums s) where
+      -- the same over all views
+      over : (f : View → ℕ) (n : Job → ℕ → ℕ → View → ℕ) → ((v : View) → ((j : Job) (k l : ℕ) → 0 < n j k l v → Good k l) → f v ≤ grid (λ r l. n Explore (key_in r) l v + n Compute (key_in r) l v))
+          → ((j : Job) (k l : ℕ) → 0 < s.total (n j k l) → Good k l) → s.total f ≤ grid (λ r l. s.total (n Explore (key_in r) l) + s.total (n Compute (key_in r) l))
+      over f n each good = let g : View → ℕ = λ v. grid (λ r l. n Explore (key_in r) l v + n Compute (key_in r) l v) in let more : View → ℕ = λ v. f v - g v in
+          let a = sums.below f (λ v. g v + more v) (λ v. omega arith) in let b = sums.add g more in
+          let none : s.total more ≡ 0 = dite (ℕ_discrete (s.total more) 0) (λ z. z) (λ ne. absurd (let w = sums.some more (omega (arith, ne)) in let y = w.1 in let d = each w.0 (λ j k l z. good j k l (let u = w.2 (n j k l) in omega (arith, u, z))) in omega (arith, y, d))) in
+          let c : s.total g ≡ grid (λ r l. s.total (n Explore (key_in r) l) + s.total (n Compute (key_in r) l)) = grid_total s sums (λ r l v. n Explore (key_in r) l v + n Compute (key_in r) l v) ∙ (λ j. grid (λ r l. sums.add (n Explore (key_in r) l) (n Compute (key_in r) l) j)) in
+          omega (arith, a, b, c, none)
 
-    pub few_owed : (vs : List View) → ((j : Job) (k l : ℕ) → 0 < total_of vs (owed j k l) → Good k l) → ((j : Job) (k l : ℕ) → total_of vs (owed j k l) ≤ 1) → total_of vs (items is_owe) ≤ rows * (lives * 2)
-    few_owed vs good once = let a = over (items is_owe) owed (λ v g. owed_in v.stacks g) vs good in let b = grid_most (λ r l. total_of vs (owed Explore (key_in r) l) + total_of vs (owed Compute (key_in r) l)) 2 (λ r l. let x = once Explore (key_in r) l in let y = once Compute (key_in r) l in omega (arith, x, y)) in omega (arith, a, b)
+      few_owed : ((j : Job) (k l : ℕ) → 0 < s.total (owed j k l) → Good k l) → ((j : Job) (k l : ℕ) → s.total (owed j k l) ≤ 1) → s.total (items is_owe) ≤ rows * (lives * 2)
+      few_owed good once = let a = over (items is_owe) owed (λ v g. owed_in v.stacks g) good in let b = grid_most (λ r l. s.total (owed Explore (key_in r) l) + s.total (owed Compute (key_in r) l)) 2 (λ r l. let x = once Explore (key_in r) l in let y = once Compute (key_in r) l in omega (arith, x, y)) in omega (arith, a, b)
 
-    pub few_stacks : (vs : List View) → ((j : Job) (k l : ℕ) → 0 < total_of vs (came j k l) → Good k l) → ((j : Job) (k l : ℕ) → total_of vs (came j k l) ≤ 1) → total_of vs stack_count ≤ rows * (lives * 2)
-    few_stacks vs good once = let a = over stack_count came (λ v g. stacks_in v.stacks g) vs good in let b = grid_most (λ r l. total_of vs (came Explore (key_in r) l) + total_of vs (came Compute (key_in r) l)) 2 (λ r l. let x = once Explore (key_in r) l in let y = once Compute (key_in r) l in omega (arith, x, y)) in omega (arith, a, b)
+      few_stacks : ((j : Job) (k l : ℕ) → 0 < s.total (came j k l) → Good k l) → ((j : Job) (k l : ℕ) → s.total (came j k l) ≤ 1) → s.total stack_count ≤ rows * (lives * 2)
+      few_stacks good once = let a = over stack_count came (λ v g. stacks_in v.stacks g) good in let b = grid_most (λ r l. s.total (came Explore (key_in r) l) + s.total (came Compute (key_in r) l)) 2 (λ r l. let x = once Explore (key_in r) l in let y = once Compute (key_in r) l in omega (arith, x, y)) in omega (arith, a, b)
 
 few_posted : (w : Spot → ℕ) (n : ℕ) → posted_count w n ≤ 2 * n
 few_posted w zero = omega arith
@@ -179,23 +191,24 @@ module _ (e : Setting) (fit : Sound e) (s : Core) (sums : Sums s) (i : Invariant
   good_row : (k l : ℕ) (row : HasRow e s k) → l ≤ 65535 → GoodKey k l
   good_row k l row low = let a = row.1.1 in (row.0, row.1.0, omega (arith, a), omega (arith, low))
 
-  pub good_owed : (j : Job) (k l : ℕ) → 0 < s.total (owed j k l) → GoodKey k l
+  good_owed : (j : Job) (k l : ℕ) → 0 < s.total (owed j k l) → GoodKey k l
   good_owed j k l z = let row = row_of k (Rattle.core_state.specs.Tests.is_owed j k l) (owed_at j k l) z in good_row k l row (job_life row.0 k l row.1 j (omega (arith, z)))
 
-  pub good_came : (j : Job) (k l : ℕ) → 0 < s.total (came j k l) → GoodKey k l
+  good_came : (j : Job) (k l : ℕ) → 0 < s.total (came j k l) → GoodKey k l
   good_came j k l z = let a = i.work.jobs.came j k l in let some : 0 < s.total (begun j k l) = omega (arith, a, z) in let row = begun_row j k l some in good_row k l row (job_life row.0 k l row.1 j (let b = begun_is j k l in omega (arith, some, b)))
 
   -- a computing that a view holds is of a life that its row has
   pub held_life : (r k l : ℕ) → HasKey e s r k → 0 < s.total (held Compute k l) → (0 < l) × (l ≤ 65535)
   held_life r k l has z = (dite (ℕ_discrete l 0) (λ q. absurd (let a = (no_life Compute k l q).1 in let b = begun_is Compute k l in omega (arith, a, b, z))) (λ ne. omega (arith, ne)), job_life r k l has Compute (omega (arith, z)))
 
-  pub once_owed : (j : Job) (k l : ℕ) → s.total (owed j k l) ≤ 1
+  once_owed : (j : Job) (k l : ℕ) → s.total (owed j k l) ≤ 1
   once_owed j k l = let a = once j k l in omega (arith, a)
 
-  pub once_came : (j : Job) (k l : ℕ) → s.total (came j k l) ≤ 1
+  once_came : (j : Job) (k l : ℕ) → s.total (came j k l) ≤ 1
   once_came j k l = let a = once j k l in let b = i.work.jobs.came j k l in omega (arith, a, b)
 
-  pub pending_low : s.total stack_count ≤ e.shape.rows * (65536 * 2) → s.total (items is_owe) ≤ e.shape.rows * (65536 * 2) → s.word pending < 2 ^ 63
-  pending_low a b = let c = i.work.credits.sum in let d = i.work.credits.few_spare in
+  pub pending_few : s.word pending < 2 ^ 63
+  pending_few = let a = few_stacks e.shape.rows 65536 (λ r. s.word (key r) - 1) s sums good_came once_came in let b = few_owed e.shape.rows 65536 (λ r. s.word (key r) - 1) s sums good_owed once_owed in
+      let c = i.work.credits.sum in let d = i.work.credits.few_spare in
       let f = sums.below spare (λ v. too_many v + items is_owe v) (λ v. omega arith) in let g = sums.add too_many (items is_owe) in
       let h = few_posted s.word e.shape.rows in let r = fit.small.0 in omega (arith, a, b, c, d, f, g, h, r)

@@ -3,17 +3,13 @@ use Rattle.std.proofs.Common.{◌≡◌, ℕ, ◌/◌, ◌<◌, ◌&&◌, Bool, 
 use Rattle.std.proofs.lemmas.Bool.{lt-ltb}
 use Rattle.core_state.specs.Graph.{Setting}
 use Rattle.core_state.specs.Words.{Shape, notify, inside}
-use Rattle.core_state.specs.Counts.{hit, in_hand}
-use Rattle.core_state.specs.Guards.{Registers, InHand}
-use Rattle.core_state.specs.Guards.Registers.{exploring, reentering}
+use Rattle.core_state.specs.Counts.{in_hand}
 use Rattle.core_state.specs.Events.{Event, at, Can}
 use Rattle.core_state.specs.Events.Event.{claim, look, load_descriptor, load_notify, load_recovery, load_pending, load_stop, register, spend, close, elect, renew_notify, renew_descriptor, finish, strike_descriptor, strike_notify, post, take, buy, drop_credit, take_turn, give_read, give_written, give_struck, halt}
 use Rattle.core_state.specs.Views.{blank}
-use Rattle.core_state.specs.declared.block.BlockCells.{BlockCells}
-use Rattle.core_state.specs.declared.views.View.{View}
-use Rattle.core_state.proofs.Base.Counting.{eqb_here}
-use Rattle.core_state.proofs.Blocks.Home.{hand_left}
 use Rattle.core_state.proofs.Base.Sums.{total_within}
+use Rattle.core_steps.proofs.AnyBlock.{hand_some}
+use Rattle.core_steps.proofs.AnyCore.{has_word}
 use Rattle.core_steps.proofs.Changing.{elem_at}
 use Rattle.core_steps.specs.Table.{Plain, view_at, IsSound}
 
@@ -28,18 +24,9 @@ word_fits e p k w s less = subst (λ (h : Shape). w < h.notify_words) (sym s.sha
 pub notify_inside : (e : Setting) (p : Plain) (r k w : ℕ) → IsSound e p → r < e.shape.rows → w < e.graph.notify_words k → inside p.shape (notify r w) ≡ true
 notify_inside e p r k w s low less = ap (λ (b : Bool). b && nat_lt w p.shape.notify_words) (row_inside e p r s low) ∙ lt-ltb w p.shape.notify_words (word_fits e p k w s less)
 
--- who has a block in hand, has it
-pub hand_some : (b : ℕ) (x : BlockCells) (v : View) → InHand v b x → 0 < in_hand b v
-hand_some b x v hand = let a = hand_left b b x v hand in let f = ap hit (eqb_here b) in omega (arith, a, f)
-
 -- a block in hand is one of the table
 pub held_low : (e : Setting) (p : Plain) (i : ℕ) (b : ℕ) → i < length p.views → IsSound e p → 0 < in_hand b (view_at p i) → b < p.shape.blocks
 held_low e p i b low s some_block = s.housed.within b (let a = total_within p.views i (view_at p i) (in_hand b) (elem_at p.views i blank low) in omega (arith, a, some_block))
-
--- a task has the word of its port
-pub has_word : (e : Setting) (p : Plain) (v : View) (k q : ℕ) → IsSound e p → Registers e v k q → q / 40 < e.graph.notify_words k
-has_word e p v k q s (exploring a l j at less task port) = let back = s.setting.lawful.back a j less in s.setting.lawful.enough_words k q (subst (λ o. o < e.graph.ports k) port (subst (λ o. (e.graph.pred a j).port < e.graph.ports o) task back.0))
-has_word e p v k q s (reentering l r qs at less known) = s.setting.lawful.enough_words k q less
 
 pub spot_inside : (e : Setting) (p : Plain) (i : ℕ) → i < length p.views → IsSound e p → (x : Event) → Can e (view_at p i) x → inside p.shape (at x) ≡ true
 spot_inside e p i low s (claim r k) can = row_inside e p r s can.low
@@ -49,7 +36,7 @@ spot_inside e p i low s (load_notify r k w) can = notify_inside e p r k w s can.
 spot_inside e p i low s (load_recovery r k) can = row_inside e p r s can.low
 spot_inside e p i low s load_pending can = refl
 spot_inside e p i low s load_stop can = refl
-spot_inside e p i low s (register r k q) can = notify_inside e p r k (q / 40) s can.row.low (has_word e p (view_at p i) k q s can.edge)
+spot_inside e p i low s (register r k q) can = notify_inside e p r k (q / 40) s can.row.low (has_word e s.setting (view_at p i) k q can.edge)
 spot_inside e p i low s (spend r k j) can = row_inside e p r s can.row.low
 spot_inside e p i low s (close r k l w seen) can = notify_inside e p r k w s can.row.low can.word_in
 spot_inside e p i low s (elect r k l c waits) can = row_inside e p r s can.row.low

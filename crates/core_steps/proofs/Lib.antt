@@ -1,3 +1,6 @@
+pub mod AnyBlock
+pub mod AnyCore
+pub mod AtPlain
 pub mod BlocksGiven
 pub mod BlocksMoved
 pub mod BlocksTaken

@@ -1,77 +1,97 @@
 -- The numbers of a row's words, and the lives that a view works for, are small.
-use Rattle.std.proofs.Common.{◌≡◌, ℕ, ◌+◌, ◌^◌, ◌<◌, ◌≤◌, Bool, false, [], length, get_or, set, refl, arith, ap, sym, ◌∙◌, subst, inl, inr, ⊎_elim}
-use Rattle.core_state.specs.Graph.{Setting}
-use Rattle.core_state.specs.Words.{recovery, place_of, empty_word, standing_life, replacing}
+use Rattle.std.proofs.Common.{◌≡◌, ℕ, ◌+◌, ◌-◌, ◌^◌, ◌<◌, ◌≤◌, ◌&&◌, eqb, Bool, true, false, arith, ap, subst, inl, inr, ⊎_elim}
+use Rattle.core_state.specs.Graph.{Setting, Sound}
+use Rattle.core_state.specs.Words.{recovery, empty_word, standing_life, replacing}
 use Rattle.core_state.specs.Laws.{IsPlace}
+use Rattle.core_state.specs.Change.{Core}
 use Rattle.core_state.specs.Guards.{CanClose, CanElect, CanSpend, Spends, KnowsRow}
 use Rattle.core_state.specs.Guards.Spends.{exploring, notifying, reentering, itself}
-use Rattle.core_state.specs.Counts.{hit, held, items, knows_row}
-use Rattle.core_state.specs.Tests.{carries, is_suspect}
+use Rattle.core_state.specs.Counts.{hit, held, items, in_stacks}
+use Rattle.core_state.specs.Tests.{carries, is_renew, is_renew_at, is_suspect}
 use Rattle.core_state.specs.Effects.{finish_left}
 use Rattle.core_state.specs.Packed.{IsLife, bit_of, descriptor_word, notify_word, recovery_word}
-use Rattle.core_state.specs.Rows.{HasKey}
-use Rattle.core_state.specs.Views.{blank}
-use Rattle.core_state.specs.declared.block.BlockCells.{BlockCells}
+use Rattle.core_state.specs.Rows.{Replacing}
+use Rattle.core_state.specs.Views.{on_top, without_first}
 use Rattle.core_state.specs.declared.job.Job.TheVariants.{Compute}
+use Rattle.core_state.specs.declared.views.Item.{Item}
+use Rattle.core_state.specs.declared.views.Item.TheVariants as item
+use Rattle.core_state.specs.declared.views.View.{View}
 use Rattle.core_state.specs.declared.words.Descriptor.{Descriptor}
 use Rattle.core_state.specs.declared.words.NotifyWord.{NotifyWord}
 use Rattle.core_state.specs.declared.words.Recovery.{Recovery}
 use Rattle.graph_model.specs.declared.record.Cause.{Cause}
-use Rattle.core_state.proofs.Base.Counting.{two_here}
+use Rattle.core_state.proofs.Base.Counting.{eqb_here, three_else, two_here}
 use Rattle.core_state.proofs.Close.View.{at_top}
-use Rattle.core_state.proofs.Replace.RenewalParts.{OneRenewal, the_renewal}
-use Rattle.core_state.proofs.Base.Words.{read_at}
-use Rattle.core_state.proofs.Base.Tables.{state_sums}
-use Rattle.core_state.proofs.Base.Sums.{total_within}
+use Rattle.core_state.proofs.Credit.JobView.{popped_items}
 use Rattle.core_state.proofs.Replace.Lost.{taken}
+use Rattle.core_state.proofs.Row.Made.{both}
+use Rattle.core_state.proofs.Row.View.{fewer_items, items_below}
+use Rattle.core_steps.proofs.AnyCore.{IsViewOf, known_has}
 use Rattle.core_steps.proofs.Bound.{greatest, held_life}
-use Rattle.core_steps.proofs.Changing.{change_of, elem_at}
-use Rattle.core_steps.proofs.Inside.{row_inside}
 use Rattle.core_steps.specs.Serving.{Renews}
-use Rattle.core_steps.specs.Table.{Plain, view_at, home_at, core_by, IsSound}
 
-module _ (e : Setting) (p : Plain) (i : ℕ) (low : i < length p.views) (s : IsSound e p) where
-  module _ (r k : ℕ) where
-    -- a recovery word shows a life that its key may have
-    pub recovery_few : KnowsRow e (view_at p i) r k → get_or p.words (place_of p.shape (recovery r)) 0 < 2 ^ 17
-    recovery_few can = let w : ℕ = (core_by p.shape p.words p.blocks p.views).word (recovery r) in
-        let at : w ≡ get_or p.words (place_of p.shape (recovery r)) 0 = read_at p.shape p.words (recovery r) (row_inside e p r s can.low) in
-        let has : HasKey e (core_by p.shape p.words p.blocks p.views) r k = s.holds.keys.known r k (let a = total_within p.views i (view_at p i) (knows_row r k) (elem_at p.views i blank low) in let b = can.row_known in omega (arith, a, b)) in
-        let most = (s.holds.lives.each r k has).at_most in let a = greatest e s.setting (core_by p.shape p.words p.blocks p.views) (state_sums {S = BlockCells} p.shape (λ _. home_at p.blocks) (record { words = p.words; homes = []; views = p.views })) s.holds k in
-        let less : standing_life w < 65536 = omega (arith, most, a) in subst (λ n. n < 2 ^ 17) at (omega (arith, less))
+renew_of : (k a b : ℕ) (y : Item) → is_renew_at k a b y ≡ true → is_renew k y ≡ true
+renew_of k a b (item.Renew m i j) z = (both (eqb k m) (eqb a i && eqb b j) z).0
+renew_of k a b y z = absurd cc
 
-  module _ (r k l w seen : ℕ) (can : CanClose e (view_at p i) r k l w seen) where
-    -- the life is one that a word can show
-    pub close_life : (1 ≤ l) × (l ≤ 65536)
-    close_life = let here = elem_at p.views i blank low in let has = s.holds.keys.known r k (let a = total_within p.views i (view_at p i) (knows_row r k) here in let b = can.row.row_known in omega (arith, a, b)) in
-        let a = total_within p.views i (view_at p i) (held Compute k l) here in let b = at_top k l w 0 (view_at p i) can.at_work (carries Compute k l) in let c = ap hit (two_here k l) in
-        let f = held_life e s.setting (core_by p.shape p.words p.blocks p.views) (state_sums {S = BlockCells} p.shape (λ _. home_at p.blocks) (record { words = p.words; homes = []; views = p.views })) s.holds r k l has (omega (arith, a, b, c)) in
-        let x = f.0 in let y = f.1 in (omega (arith, x), omega (arith, y))
+module _ {e : Setting} {s : Core} {v : View} (x : IsViewOf e s v) where
+  -- a recovery word shows a life that its key may have
+  pub recovery_few : (r k : ℕ) → KnowsRow e v r k → s.word (recovery r) < 2 ^ 17
+  recovery_few r k can = let most = (x.holds.lives.each r k (known_has x r k can)).at_most in let a = greatest e x.fit s x.sums x.holds k in
+      let less : standing_life (s.word (recovery r)) < 65536 = omega (arith, most, a) in omega (arith, less)
 
-  module _ (r k j : ℕ) (can : CanSpend e (view_at p i) r k j) where
-    -- the place is one of the task, or that which exploring itself spends
-    spends_place : Spends e (view_at p i) k j → IsPlace e.graph k j
-    spends_place (exploring l at less known) = inl less
-    spends_place (notifying a l w q qs at less task is known) = inl (subst (λ o. o < e.graph.places k) is (subst (λ o. (e.graph.succ a q).place < e.graph.places o) task (s.setting.lawful.forth a q less).0))
-    spends_place (reentering a l q qs at less task is known) = inl (subst (λ o. o < e.graph.places k) is (subst (λ o. (e.graph.succ a q).place < e.graph.places o) task (s.setting.lawful.forth a q less).0))
-    spends_place (itself l at is) = inr is
+  -- a closing is of a life that a word can show
+  pub close_life : (r k l w seen : ℕ) → CanClose e v r k l w seen → IsLife l
+  close_life r k l w seen can = let a = x.within (held Compute k l) in let b = at_top k l w 0 v can.at_work (carries Compute k l) in let c = ap hit (two_here k l) in
+      let f = held_life e x.fit s x.sums x.holds r k l (known_has x r k can.row) (omega (arith, a, b, c)) in let y = f.0 in let z = f.1 in (omega (arith, y), omega (arith, z))
 
-    pub place_few : j ≤ 40
-    place_few = let a = s.setting.lawful.few_places k in ⊎_elim (λ less. omega (arith, a, less)) (λ is. omega (arith, is)) (spends_place can.edge)
+  -- and so is a suspected life
+  pub elect_life : (r k l : ℕ) (c : Cause) (waits : Bool) → CanElect e v r k l c waits → IsLife l
+  elect_life r k l c waits can = let a = (x.holds.lives.each r k (known_has x r k can.row)).suspected l (let a = x.within (items (is_suspect k l)) in let b = taken k l c waits v can.at_work (is_suspect k l) in let d = ap hit (two_here k l) in omega (arith, a, b, d)) in
+      let b = a.0 in let d = greatest e x.fit s x.sums x.holds k in let f = can.not_last in (omega (arith, b), omega (arith, d, f))
 
-module _ (e : Setting) (p : Plain) (i : ℕ) (low : i < length p.views) (s : IsSound e p) (r k l : ℕ) (c : Cause) (waits : Bool) (can : CanElect e (view_at p i) r k l c waits) where
-  has : HasKey e (core_by p.shape p.words p.blocks p.views) r k
-  has = s.holds.keys.known r k (let a = total_within p.views i (view_at p i) (knows_row r k) (elem_at p.views i blank low) in let b = can.row.row_known in omega (arith, a, b))
+  -- where the view has all items that pass a test, it has all that pass a narrower one
+  all_here : (p q : Item → Bool) → ((y : Item) → p y ≡ true → q y ≡ true) → s.total (items q) ≤ items q v → s.total (items p) ≡ items p v
+  all_here p q h most = let other : View → ℕ = λ u. items q u - items p u in
+      let a = x.sums.below (λ u. items p u + other u) (items q) (λ u. let y = items_below p q h u.stacks in omega (arith, y)) in let b = x.sums.add (items p) other in
+      let c = x.within (items p) in let d = x.within other in let f = items_below p q h v.stacks in omega (arith, a, b, c, d, f, most)
 
-  few : l < 65535
-  few = let a = greatest e s.setting (core_by p.shape p.words p.blocks p.views) (state_sums {S = BlockCells} p.shape (λ _. home_at p.blocks) (record { words = p.words; homes = []; views = p.views })) s.holds k in let b = can.not_last in omega (arith, a, b)
+  module _ (r k l : ℕ) (renews : Renews e v r k l) where
+    abbrev others : (Item → Bool) → ℕ
+    others p = in_stacks p (on_top without_first v.stacks)
 
-  pub elect_life : IsLife l
-  elect_life = let a = (s.holds.lives.each r k has).suspected l (let a = total_within p.views i (view_at p i) (items (is_suspect k l)) (elem_at p.views i blank low) in let b = taken k l c waits (view_at p i) can.at_work (is_suspect k l) in let d = ap hit (two_here k l) in omega (arith, a, b, d)) in
-      let b = a.0 in let d = few in (omega (arith, b), omega (arith, d))
+    at_work : (p : Item → Bool) → others p + hit (p (item.Renew k l renews.done)) ≡ items p v
+    at_work p = let w = renews.at_work in popped_items p v.stacks w.stack (item.Renew k l renews.done) w.below w.others w.stacks_are w.items_are
 
-  pub elect_few : get_or p.words (place_of p.shape (recovery r)) 0 < 2 ^ 17
-  elect_few = recovery_few e p i low s r k can.row
+    -- the renewal at work is the only one of its key
+    renewing : (replacing (s.word (recovery r)) ≡ 1) × (s.total (items (is_renew k)) ≡ 1) × (others (is_renew k) ≡ 0)
+    renewing = let a = (x.holds.lives.each r k (known_has x r k renews.row)).renewing in let b = x.within (items (is_renew k)) in let c = at_work (is_renew k) in let d = ap hit (eqb_here k) in
+        (omega (arith, a, b, c, d), omega (arith, a, b, c, d), omega (arith, a, b, c, d))
+
+    stage : Replacing e s r k (standing_life (s.word (recovery r)))
+    stage = (x.holds.lives.each r k (known_has x r k renews.row)).being_replaced renewing.0
+
+    renewed_is : standing_life (s.word (recovery r)) ≡ l
+    renewed_is = let p : Item → Bool = is_renew_at k (standing_life (s.word (recovery r))) stage.done in let of = renew_of k (standing_life (s.word (recovery r))) stage.done in
+        ⊎_elim (λ z. absurd (let a = all_here p (is_renew k) of (let c = at_work (is_renew k) in let d = ap hit (eqb_here k) in let f = renewing.1 in omega (arith, c, d, f)) in let b = stage.one_view in
+        let c = at_work p in let d = fewer_items (is_renew k) p of (on_top without_first v.stacks) renewing.2 in omega (arith, a, b, c, d, z)))
+        (λ z. z.1) (three_else k (standing_life (s.word (recovery r))) stage.done k l renews.done)
+
+    -- the recovery word of a life that the view replaces
+    pub renewed_life : let n : ℕ = s.word (recovery r) in (standing_life n ≡ l) × (l < 65535) × (n < 2 ^ 17)
+    renewed_life = let now = renewing.0 in let life = renewed_is in let most = (x.holds.lives.each r k (known_has x r k renews.row)).at_most in let few = greatest e x.fit s x.sums x.holds k in
+        let less : l < 65535 = omega (arith, life, now, most, few) in (life, less, omega (arith, life, less))
+
+module _ (e : Setting) (fit : Sound e) (v : View) (r k j : ℕ) (can : CanSpend e v r k j) where
+  -- the place is one of the task, or that which exploring itself spends
+  spends_place : Spends e v k j → IsPlace e.graph k j
+  spends_place (exploring l at less known) = inl less
+  spends_place (notifying a l w q qs at less task is known) = inl (subst (λ o. o < e.graph.places k) is (subst (λ o. (e.graph.succ a q).place < e.graph.places o) task (fit.lawful.forth a q less).0))
+  spends_place (reentering a l q qs at less task is known) = inl (subst (λ o. o < e.graph.places k) is (subst (λ o. (e.graph.succ a q).place < e.graph.places o) task (fit.lawful.forth a q less).0))
+  spends_place (itself l at is) = inr is
+
+  pub place_few : j ≤ 40
+  place_few = let a = fit.lawful.few_places k in ⊎_elim (λ less. omega (arith, a, less)) (λ is. omega (arith, is)) (spends_place can.edge)
 
 -- the words of the next life, with nothing done in it
 pub empty_notify : (x : NotifyWord) (l : ℕ) → x.life ≡ l + 1 → x.struck ≡ false → x.closed ≡ false → x.ports ≡ 0 → notify_word x ≡ empty_word (l + 1)
@@ -82,22 +102,3 @@ empty_descriptor x l life unstruck none = let a = ap bit_of unstruck in omega (a
 
 pub next_stands : (x : Recovery) (l : ℕ) → x.life ≡ l + 1 → x.renewing ≡ false → recovery_word x ≡ finish_left l
 next_stands x l life stands = let a = ap bit_of stands in omega (arith, life, a)
-
-module _ (e : Setting) (p : Plain) (i : ℕ) (low : i < length p.views) (s : IsSound e p) (r k l : ℕ) where
-  -- the recovery word of a life that a worker replaces
-  module _ (renews : Renews e (view_at p i) r k l) where
-    renewed_has : HasKey e (core_by p.shape p.words p.blocks p.views) r k
-    renewed_has = s.holds.keys.known r k (let a = total_within p.views i (view_at p i) (knows_row r k) (elem_at p.views i blank low) in let b = renews.row.row_known in omega (arith, a, b))
-
-    one : OneRenewal e (core_by p.shape p.words p.blocks p.views) r k l renews.done
-    one = let n : ℕ = get_or p.words (place_of p.shape (recovery r)) 0 in
-        the_renewal e (core_by p.shape p.words p.blocks p.views) (core_by p.shape (set p.words (place_of p.shape (recovery r)) n) p.blocks (set p.views i (view_at p i))) (recovery r) r k l renews.done n n (view_at p i) (view_at p i)
-        (change_of p i (recovery r) n (view_at p i) low s.fits (row_inside e p r s renews.row.low) refl) renewed_has renews.at_work s.holds
-
-    pub renewed_life : let n : ℕ = get_or p.words (place_of p.shape (recovery r)) 0 in (standing_life n ≡ l) × (l < 65535) × (n < 2 ^ 17)
-    renewed_life = let w : ℕ = (core_by p.shape p.words p.blocks p.views).word (recovery r) in
-        let at : w ≡ get_or p.words (place_of p.shape (recovery r)) 0 = read_at p.shape p.words (recovery r) (row_inside e p r s renews.row.low) in
-        let life : standing_life w ≡ l = one.life_is in let now : replacing w ≡ 1 = one.replacing_now in
-        let most = (s.holds.lives.each r k renewed_has).at_most in let few = greatest e s.setting (core_by p.shape p.words p.blocks p.views) (state_sums {S = BlockCells} p.shape (λ _. home_at p.blocks) (record { words = p.words; homes = []; views = p.views })) s.holds k in
-        let less : l < 65535 = omega (arith, life, now, most, few) in
-        (sym (ap standing_life at) ∙ life, less, subst (λ n. n < 2 ^ 17) at (omega (arith, life, less)))

@@ -11,8 +11,8 @@ use Rattle.core_state.specs.Words.{Shape}
 use Rattle.core_state.specs.declared.block.BlockCells.{BlockCells}
 use Rattle.core_state.specs.declared.views.Hand.{Hand}
 use Rattle.core_state.specs.declared.views.View.{View}
-use Rattle.core_state.proofs.Blocks.Versions.{version_written}
 use Rattle.core_state.proofs.Base.Tables.{state_sums}
+use Rattle.core_steps.proofs.AnyBlock.{root_good}
 use Rattle.core_steps.specs.Seat.{cells_in}
 use Rattle.core_steps.specs.Table.{Plain, IsSound, FitsCells, core_by, home_at}
 
@@ -37,9 +37,8 @@ module _ (e : Setting) (fit : Sound e) (h : Shape) (ws : List ℕ) (bs : List (O
 
   -- what the root's block holds at home is the root's value, where it was written
   pub root_value : (x : BlockCells) → get_or bs (e.graph.block e.graph.root) None ≡ Some x → 0 < x.tag → x.cells ≡ e.graph.value e.graph.root
-  root_value x is full = let b : ℕ = e.graph.block e.graph.root in let holds = subst (λ y. Rattle.core_state.specs.Blocks.Holds e (core_by h ws bs vs) b y) (block_home b x is) (i.blocks.each b (fit.blocks_fit e.graph.root itself)).holds in
-      let by = version_written e fit (core_by h ws bs vs) (state_sums {S = BlockCells} h (λ _. home_at bs) (record { words = ws; homes = []; views = vs })) i.records b x.tag (holds.written full) in
-      holds.good (holds.root refl) full ∙ ap e.graph.value (fit.lawful.root_block.1 (e.graph.writer b x.tag) by.2)
+  root_value x is = subst (λ (y : BlockCells). 0 < y.tag → y.cells ≡ e.graph.value e.graph.root) (block_home (e.graph.block e.graph.root) x is)
+      (root_good e (core_by h ws bs vs) i fit (state_sums {S = BlockCells} h (λ _. home_at bs) (record { words = ws; homes = []; views = vs })))
 
 module _ (e : Setting) (p : Plain) (s : IsSound e p) where
   pub root_fits : FitsCells (home_at p.blocks (e.graph.block e.graph.root)) p.root_room

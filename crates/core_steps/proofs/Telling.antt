@@ -1,18 +1,19 @@
 -- What claims and looks tell a caller of the key words, and what they keep.
-use Rattle.std.proofs.Common.{◌≡◌, ◌≢◌, ℕ, zero, suc, ◌+◌, ◌-◌, ◌%◌, ◌*◌, ◌/◌, ◌<◌, Bool, true, false, cond, ◌&&◌, eqb, ne_eqb, eq-eqb, lt-ltb, le-ltb, List, [], ◌∷◌, length, get_or, arith, sym, ap, refl, ◌∙◌, subst, Option, Some, None}
+use Rattle.std.proofs.Common.{◌≡◌, ◌≢◌, ℕ, zero, suc, ◌+◌, ◌-◌, ◌%◌, ◌*◌, ◌/◌, ◌<◌, Bool, true, false, cond, ◌&&◌, eqb, ne_eqb, eq-eqb, lt-ltb, le-ltb, List, [], ◌∷◌, arith, sym, ap, refl, ◌∙◌, subst, Option, Some, None}
 use mathlib.Core.Logic.{dite}
 use native.Mathlib.Decide.{ℕ_discrete, dec_lt}
 use native.Mathlib.Nat.{div-add-mod', add-mul}
 use Rattle.std.proofs.lemmas.Nat.{mod_below, mod-mul-add}
 use Rattle.core_state.specs.Graph.{Setting}
-use Rattle.core_state.specs.Words.{key, place_of}
+use Rattle.core_state.specs.Words.{key}
+use Rattle.core_state.specs.Change.{Core}
 use Rattle.core_state.specs.Counts.{count, items, knows_row, word_in}
 use Rattle.core_state.specs.Tests.{is_exploring, notifies, suspects_block, is_row}
 use Rattle.core_state.specs.Rows.{HasKey, HasRow}
 use Rattle.core_state.specs.Events.{after, at}
 use Rattle.core_state.specs.Guards.{CanClaim}
 use Rattle.core_state.specs.Effects.{claim_of, claim_left, after_claim, after_look, skipped_items, is_other, others_before, distance}
-use Rattle.core_state.specs.Views.{settle, blank, change_top, key_of}
+use Rattle.core_state.specs.Views.{settle, change_top, key_of}
 use Rattle.core_state.specs.declared.answers.Claim.TheVariants as claim
 use Rattle.core_state.specs.declared.job.Job.{Job}
 use Rattle.core_state.specs.declared.job.Job.TheVariants.{Explore}
@@ -28,8 +29,6 @@ use Rattle.core_state.proofs.Base.Paths.{reaches, distance_below, at_distance}
 use Rattle.core_state.proofs.Settle.Keeps.{fails}
 use Rattle.core_state.proofs.Settle.View.{settled_same}
 use Rattle.core_state.proofs.Row.Look.{tops_same}
-use Rattle.core_state.proofs.Base.Words.{read_at}
-use Rattle.core_state.proofs.Base.Sums.{total_within}
 use Rattle.key_table.specs.Path.{path_row, HasPassed, IsNext}
 use Rattle.key_table.specs.Rules.{HasRules, ClaimTells, SeenTells, claimed_key, Learns}
 use Rattle.key_table.specs.declared.words.Claim.{Claim}
@@ -38,10 +37,7 @@ use Rattle.key_table.specs.declared.words.Seen.{Seen}
 use Rattle.key_table.specs.declared.words.Seen.TheVariants.{Empty, Holds}
 use Rattle.core_steps.specs.Seat.{Explores, Awaits, known_of, key_in, key_event}
 use Rattle.core_steps.specs.Seat.Awaits.{by_port, by_block}
-use Rattle.core_steps.specs.Table.{Plain, IsSound, IsTableStep, view_at, core_by}
-use Rattle.core_steps.specs.declared.kinds.Touched.{Touched}
-use Rattle.core_steps.proofs.Changing.{elem_at}
-use Rattle.core_steps.proofs.Seats.{explored_reached}
+use Rattle.core_steps.proofs.AnyCore.{IsViewOf, explored_reached}
 
 -- a row of a key's path, as the core counts it
 path_is : (k rows i : ℕ) → i < rows → path_row k rows i ≡ (k + i) % rows
@@ -78,56 +74,52 @@ passed_before v rows k (suc d) l passed = let o = passed.others d (omega arith) 
 pub passed_upto : (v : View) (rows k d r : ℕ) → d < rows → r < rows → r ≡ path_row k rows d → HasPassed (known_of v) k rows d → others_before rows k v.known (distance rows k r) ≡ true
 passed_upto v rows k d r l low here passed = subst (λ x. others_before rows k v.known x ≡ true) (at_distance rows k r d low l (here ∙ path_is k rows d l)) (passed_before v rows k d l passed)
 
-module _ (e : Setting) (p : Plain) (i : ℕ) (low : i < length p.views) (s : IsSound e p) where
-  pub key_known : (r k : ℕ) → known_of (view_at p i) r ≡ Some k → HasKey e (core_by p.shape p.words p.blocks p.views) r k
-  key_known r k is = let n : ℕ = word_in r (view_at p i).known in let one : n ≡ k + 1 = number_of n k is in
-      let a = total_within p.views i (view_at p i) (knows_row r (n - 1)) (elem_at p.views i blank low) in let b : 0 < count (is_row r (n - 1)) (view_at p i).known = word_known r (view_at p i).known (omega (arith, one)) in
-      let has = s.holds.keys.known r (n - 1) (omega (arith, a, b)) in (has.0, let c = has.1 in omega (arith, c, one))
+module _ {e : Setting} {s : Core} {v : View} (x : IsViewOf e s v) where
+  key_known : (r k : ℕ) → known_of v r ≡ Some k → HasKey e s r k
+  key_known r k is = let n : ℕ = word_in r v.known in let one : n ≡ k + 1 = number_of n k is in
+      let a = x.within (knows_row r (n - 1)) in let b : 0 < count (is_row r (n - 1)) v.known = word_known r v.known (omega (arith, one)) in
+      let has = x.holds.keys.known r (n - 1) (omega (arith, a, b)) in (has.0, let c = has.1 in omega (arith, c, one))
 
   -- the number of a row's key word
-  number_at : (r k : ℕ) → HasKey e (core_by p.shape p.words p.blocks p.views) r k → get_or p.words (place_of p.shape (key r)) 0 ≡ k + 1
-  number_at r k has = let a = read_at p.shape p.words (key r) (lt-ltb r p.shape.rows (subst (λ h. r < h.rows) (sym s.shape_is) has.0)) in let b = has.1 in omega (arith, a, b)
+  pub number_known : (r k : ℕ) → known_of v r ≡ Some k → s.word (key r) ≡ k + 1
+  number_known r k is = let a = (key_known r k is).1 in omega (arith, a)
 
-  pub stays_of : (r k : ℕ) → known_of (view_at p i) r ≡ Some k → get_or p.words (place_of p.shape (key r)) 0 ≡ k + 1
-  stays_of r k is = number_at r k (key_known r k is)
+  awaited : (k : ℕ) → Awaits e v k → HasRow e s k
+  awaited k (by_port a q z to) = subst (HasRow e s) to ((x.holds.keys.of_notify a q (let y = x.within (items (notifies a q)) in omega (arith, y, z))).1)
+  awaited k (by_block b u z to) = subst (HasRow e s) to (x.holds.keys.of_cause b u (let y = x.within (items (suspects_block b u)) in omega (arith, y, z)))
 
-  awaited : (k : ℕ) → Awaits e (view_at p i) k → HasRow e (core_by p.shape p.words p.blocks p.views) k
-  awaited k (by_port a q z to) = subst (HasRow e (core_by p.shape p.words p.blocks p.views)) to ((s.holds.keys.of_notify a q (let x = total_within p.views i (view_at p i) (items (notifies a q)) (elem_at p.views i blank low) in omega (arith, x, z))).1)
-  awaited k (by_block b u z to) = subst (HasRow e (core_by p.shape p.words p.blocks p.views)) to (s.holds.keys.of_cause b u (let x = total_within p.views i (view_at p i) (items (suspects_block b u)) (elem_at p.views i blank low) in omega (arith, x, z)))
-
-  pub rules_of : HasRules e.shape.rows e.keys (Explores e (view_at p i)) (Awaits e (view_at p i)) (known_of (view_at p i))
+  pub rules_of : HasRules e.shape.rows e.keys (Explores e v) (Awaits e v) (known_of v)
   rules_of = record {
-    few = s.setting.few_keys;
-    may_listed = λ k x. s.setting.listed k (explored_reached e p i low s k x);
-    stands_listed = λ k x. let row = awaited k x in s.setting.listed k (s.holds.keys.reached row.0 k row.1);
-    known_listed = λ r k is. s.setting.listed k (s.holds.keys.reached r k (key_known r k is));
-    one_row = λ r o k a b. s.holds.keys.one_row r o k (key_known r k a) (key_known o k b);
+    few = x.fit.few_keys;
+    may_listed = λ k y. x.fit.listed k (explored_reached x k y);
+    stands_listed = λ k y. let row = awaited k y in x.fit.listed k (x.holds.keys.reached row.0 k row.1);
+    known_listed = λ r k is. x.fit.listed k (x.holds.keys.reached r k (key_known r k is));
+    one_row = λ r o k a b. x.holds.keys.one_row r o k (key_known r k a) (key_known o k b);
   }
 
   -- a key that stands is not next at an empty word
-  pub standing_of : (k r : ℕ) → Awaits e (view_at p i) k → IsNext (known_of (view_at p i)) k e.shape.rows r → get_or p.words (place_of p.shape (key r)) 0 ≢ 0
-  standing_of k r x next empty = let rows : ℕ = e.shape.rows in let row = awaited k x in let t : ℕ = row.0 in let has = row.1 in let d : ℕ = distance rows k t in let less : d < rows = distance_below rows k t has.0 in let to = reaches rows k t has.0 in
+  pub standing_of : (k r : ℕ) → Awaits e v k → IsNext (known_of v) k e.shape.rows r → s.word (key r) ≢ 0
+  standing_of k r y next empty = let rows : ℕ = e.shape.rows in let row = awaited k y in let t : ℕ = row.0 in let has = row.1 in let d : ℕ = distance rows k t in let less : d < rows = distance_below rows k t has.0 in let to = reaches rows k t has.0 in
       let here : r ≡ (k + next.step) % rows = sym next.at ∙ path_is k rows next.step next.within in
-      let full = number_at t k has in
+      let full = has.1 in
       dite (dec_lt d next.step)
-      (λ l. let o = next.passed.others d l in let q : known_of (view_at p i) t ≡ Some o.other = subst (λ y. known_of (view_at p i) y ≡ Some o.other) (path_is k rows d less ∙ sym to) o.is in
-      o.differs (let a = stays_of t o.other q in omega (arith, a, full)))
+      (λ l. let o = next.passed.others d l in let q : known_of v t ≡ Some o.other = subst (λ z. known_of v z ≡ Some o.other) (path_is k rows d less ∙ sym to) o.is in
+      o.differs (let a = number_known t o.other q in omega (arith, a, full)))
       (λ l. dite (dec_lt next.step d)
-      (λ m. let a = s.holds.keys.path t k d next.step has less to m in let there : r < p.shape.rows = subst (λ h. r < h.rows) (sym s.shape_is) (subst (λ y. y < rows) (sym here) (mod_below (k + next.step) rows (omega (arith, less)))) in
-      let b = read_at p.shape p.words (key r) (lt-ltb r p.shape.rows there) in let c = ap (λ y. (core_by p.shape p.words p.blocks p.views).word (key y)) here in omega (arith, a, b, c, empty))
-      (λ m. let z : d ≡ next.step = omega (arith, l, m) in let w : t ≡ r = to ∙ ap (λ y. (k + y) % rows) z ∙ sym here in let c = ap (λ y. get_or p.words (place_of p.shape (key y)) 0) w in omega (arith, c, full, empty)))
+      (λ m. let a = x.holds.keys.path t k d next.step has less to m in let c = ap (λ z. s.word (key z)) here in omega (arith, a, c, empty))
+      (λ m. let z : d ≡ next.step = omega (arith, l, m) in let w : t ≡ r = to ∙ ap (λ z. (k + z) % rows) z ∙ sym here in let c = ap (λ z. s.word (key z)) w in omega (arith, c, full, empty)))
 
-  pub can_of : (r k : ℕ) → r < e.shape.rows → Explores e (view_at p i) k → IsNext (known_of (view_at p i)) k e.shape.rows r → CanClaim e (view_at p i) r k
-  can_of r k l x next = record {
-    explorer = x.explorer;
-    life = x.life;
-    place = x.place;
-    low = l;
-    exploring = x.exploring;
-    is_place = x.is_place;
-    names = x.names;
-    path = passed_upto (view_at p i) e.shape.rows k next.step r next.within l (sym next.at) next.passed;
-  }
+pub can_of : (e : Setting) (v : View) (r k : ℕ) → r < e.shape.rows → Explores e v k → IsNext (known_of v) k e.shape.rows r → CanClaim e v r k
+can_of e v r k l x next = record {
+  explorer = x.explorer;
+  life = x.life;
+  place = x.place;
+  low = l;
+  exploring = x.exploring;
+  is_place = x.is_place;
+  names = x.names;
+  path = passed_upto v e.shape.rows k next.step r next.within l (sym next.at) next.passed;
+}
 
 -- a test of items that no claim, no look and no settling changes the count of
 record Lasting (q : Item → Bool) : Type 0 where
@@ -223,54 +215,54 @@ key_spot : (row : ℕ) (claimed : Option ℕ) → at (key_event row claimed) ≡
 key_spot row None = refl
 key_spot row (Some k) = refl
 
-module _ (e : Setting) (i row : ℕ) (claimed : Option ℕ) (word : Touched) (p q : Plain) (x : IsTableStep e i (key_event row claimed) word p q) where
-  key_found : word.found ≡ get_or p.words (place_of p.shape (key row)) 0
-  key_found = x.words.found_is ∙ (λ j. get_or p.words (place_of (sym x.before.shape_is j) (key_spot row claimed j)) 0)
+-- a view before a claim or a look that found the number n, and after it
+module _ (e : Setting) (row : ℕ) (claimed : Option ℕ) (n : ℕ) (v w : View) (after_is : w ≡ after e (key_event row claimed) n v) where
+  effect : Effect v w row (left_of e v claimed row n)
+  effect = subst (λ u. Effect v u row (left_of e v claimed row n)) (sym after_is) (any_effect e v row claimed n)
 
-  effect : Effect (view_at p i) (view_at q i) row (left_of e (view_at p i) claimed row word.found)
-  effect = subst (λ w. Effect (view_at p i) w row (left_of e (view_at p i) claimed row word.found)) (sym x.view_is) (any_effect e (view_at p i) row claimed word.found)
-
-  pub may_stays : (k : ℕ) → Explores e (view_at p i) k → Explores e (view_at q i) k
+  pub may_stays : (k : ℕ) → Explores e v k → Explores e w k
   may_stays k y = record { explorer = y.explorer; life = y.life; place = y.place; exploring = let a = effect.its (is_exploring y.explorer y.life y.place) (exploring_lasts y.explorer y.life y.place) in let b = y.exploring in omega (arith, a, b); is_place = y.is_place; names = y.names }
 
-  pub may_back : (k : ℕ) → Explores e (view_at q i) k → Explores e (view_at p i) k
+  pub may_back : (k : ℕ) → Explores e w k → Explores e v k
   may_back k y = record { explorer = y.explorer; life = y.life; place = y.place; exploring = let a = effect.its (is_exploring y.explorer y.life y.place) (exploring_lasts y.explorer y.life y.place) in let b = y.exploring in omega (arith, a, b); is_place = y.is_place; names = y.names }
 
-  pub stands_stays : (k : ℕ) → Awaits e (view_at p i) k → Awaits e (view_at q i) k
+  pub stands_stays : (k : ℕ) → Awaits e v k → Awaits e w k
   stands_stays k (by_port a b z to) = by_port a b (let y = effect.its (notifies a b) (notifying_lasts a b) in omega (arith, y, z)) to
   stands_stays k (by_block a b z to) = by_block a b (let y = effect.its (suspects_block a b) (blaming_lasts a b) in omega (arith, y, z)) to
 
-  pub stands_back : (k : ℕ) → Awaits e (view_at q i) k → Awaits e (view_at p i) k
+  pub stands_back : (k : ℕ) → Awaits e w k → Awaits e v k
   stands_back k (by_port a b z to) = by_port a b (let y = effect.its (notifies a b) (notifying_lasts a b) in omega (arith, y, z)) to
   stands_back k (by_block a b z to) = by_block a b (let y = effect.its (suspects_block a b) (blaming_lasts a b) in omega (arith, y, z)) to
 
-  pub stays : (k : ℕ) → known_of (view_at p i) row ≡ Some k → word.found ≡ k + 1
-  stays k is = key_found ∙ stays_of e p i x.low x.before row k is
+  known_now : (k : ℕ) → left_of e v claimed row n ≡ k + 1 → known_of w row ≡ Some k
+  known_now k is = key_in-suc (word_in row w.known) k (effect.here ∙ is)
 
-  pub known_stays : (r k : ℕ) → known_of (view_at p i) r ≡ Some k → known_of (view_at q i) r ≡ Some k
-  known_stays r k is = dite (ℕ_discrete r row)
-      (λ z. let one : word.found ≡ k + 1 = stays k (subst (λ y. known_of (view_at p i) y ≡ Some k) z is) in
-      ap (λ y. known_of (view_at q i) y) z ∙ key_in-suc (word_in row (view_at q i).known) k (effect.here ∙ left_full e (view_at p i) claimed row word.found (λ y. omega (arith, y, one)) ∙ one))
-      (λ ne. ap key_in (effect.knows r ne) ∙ is)
+  full_now : (k : ℕ) → n ≡ k + 1 → known_of w row ≡ Some k
+  full_now k is = known_now k (left_full e v claimed row n (λ z. omega (arith, z, is)) ∙ is)
 
-  pub rules_after : HasRules e.shape.rows e.keys (Explores e (view_at q i)) (Awaits e (view_at q i)) (known_of (view_at q i))
-  rules_after = rules_of e q i (let a = x.workers_are in let b = x.low in omega (arith, a, b)) x.afterwards
-
-  known_now : (k : ℕ) → left_of e (view_at p i) claimed row word.found ≡ k + 1 → known_of (view_at q i) row ≡ Some k
-  known_now k is = key_in-suc (word_in row (view_at q i).known) k (effect.here ∙ is)
-
-  full_now : (k : ℕ) → word.found ≡ k + 1 → known_of (view_at q i) row ≡ Some k
-  full_now k is = known_now k (left_full e (view_at p i) claimed row word.found (λ z. omega (arith, z, is)) ∙ is)
-
-  pub learnt : (a : Seen) → SeenTells a word.found → Learns a (known_of (view_at q i) row)
+  pub learnt : (a : Seen) → SeenTells a n → Learns a (known_of w row)
   learnt Empty t = tt
   learnt (Holds k) t = full_now k.0 t
 
-  pub claimed_now : (k : ℕ) (a : Claim) → claimed ≡ Some k → ClaimTells a k word.found → known_of (view_at q i) row ≡ Some (claimed_key a k)
+  pub claimed_now : (k : ℕ) (a : Claim) → claimed ≡ Some k → ClaimTells a k n → known_of w row ≡ Some (claimed_key a k)
   unfolding left_of
-  claimed_now k Made of t = known_now k (ap (λ o. left_of e (view_at p i) o row word.found) of ∙ ap (claim_left k) t)
+  claimed_now k Made of t = known_now k (ap (λ o. left_of e v o row n) of ∙ ap (claim_left k) t)
   claimed_now k Found of t = full_now k t
   claimed_now k (Other o) of t = full_now o.0 t.0
 
-  pub standing : (k : ℕ) → Awaits e (view_at p i) k → IsNext (known_of (view_at p i)) k e.shape.rows row → word.found ≢ 0
-  standing k a next z = standing_of e p i x.low x.before k row a next (sym key_found ∙ z)
+  -- where the key word of a core held the number
+  module _ {s : Core} (x : IsViewOf e s v) (found : s.word (at (key_event row claimed)) ≡ n) where
+    key_found : s.word (key row) ≡ n
+    key_found = sym (ap s.word (key_spot row claimed)) ∙ found
+
+    pub stays : (k : ℕ) → known_of v row ≡ Some k → n ≡ k + 1
+    stays k is = sym key_found ∙ number_known x row k is
+
+    pub known_stays : (r k : ℕ) → known_of v r ≡ Some k → known_of w r ≡ Some k
+    known_stays r k is = dite (ℕ_discrete r row)
+        (λ z. let one : n ≡ k + 1 = stays k (subst (λ y. known_of v y ≡ Some k) z is) in
+        ap (λ y. known_of w y) z ∙ key_in-suc (word_in row w.known) k (effect.here ∙ left_full e v claimed row n (λ y. omega (arith, y, one)) ∙ one))
+        (λ ne. ap key_in (effect.knows r ne) ∙ is)
+
+    pub standing : (k : ℕ) → Awaits e v k → IsNext (known_of v) k e.shape.rows row → n ≢ 0
+    standing k a next z = standing_of x k row a next (key_found ∙ z)
