@@ -1,4 +1,4 @@
-mod Blows
+pub mod Blows
 mod Flipping
 mod Halves
 mod Turning

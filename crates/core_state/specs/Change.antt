@@ -63,11 +63,6 @@ pub record Change (s t : Core) (at : Spot) (found left : ℕ) (before after : Vi
   pub alone : (f g : View → ℕ) → ((u : View) → g u ≡ 0 → f u ≡ 0) → s.total g ≤ g before → s.total f ≡ f before
   pub blocks : (b : ℕ) → turn b ≢ at → t.block b ≡ s.block b
 
--- an event on the turn of a block: what the block held, and what it holds now
-pub record BlockChange (s t : Core) (b : ℕ) (was now : BlockCells) : Type 0 where
-  pub was_is : s.block b ≡ was
-  pub now_is : t.block b ≡ now
-
 -- one view changes and no word: what a seat has noted by itself enters its view, or items of which nothing is left go
 pub record Shift (s t : Core) (before after : View) : Type 0 where
   pub words : (b : Spot) → t.word b ≡ s.word b

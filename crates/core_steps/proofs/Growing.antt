@@ -1,6 +1,6 @@
 -- Parts of a table that grow one by one.
-use Rattle.std.proofs.Common.{◌≡◌, ℕ, zero, suc, ◌+◌, ◌<◌, ◌≤◌, Bool, false, List, [], ◌∷◌, ◌++◌, length, get_or, set, length-set, get_or-set_same, remove, take, arith, sym, ap, refl, ◌∙◌, subst, Option, Some}
-use Rattle.core_state.specs.Counts.{hit, bump, count}
+use Rattle.std.proofs.Common.{◌≡◌, ℕ, zero, suc, ◌+◌, ◌<◌, ◌≤◌, Bool, false, List, [], ◌∷◌, ◌++◌, length, get_or, set, length-set, get_or-set_same, take, arith, sym, ap, refl, ◌∙◌, subst, Option, Some}
+use Rattle.core_state.specs.Counts.{count}
 use Rattle.core_state.proofs.Base.Counting.{bump_is}
 use Rattle.core_state.specs.declared.block.BlockCells.{BlockCells}
 use Rattle.graph_model.specs.declared.record.Record.{Record}
@@ -10,12 +10,8 @@ use Rattle.core_state.specs.Cover.{Passed}
 use Rattle.core_state.specs.Invariant.{Invariant}
 use Rattle.core_state.specs.Prevented.{Prevented}
 use Rattle.core_state.specs.declared.views.View.{View}
-use Rattle.std.proofs.lemmas.List.{take_all}
-use Rattle.core_steps.proofs.Changing.{all_count, any_store}
+use Rattle.core_steps.proofs.Changing.{all_count}
 use Rattle.core_steps.specs.Table.{Plain, Stored, stored, no_store, core_by, word_count, any_record, IsUnwritten, IsBare, IsAll, IsGathered, HasRoom, IsClosing, IsHoused, IsSound}
-
-pub unwritten_none : IsUnwritten []
-unwritten_none b = (refl, refl)
 
 pub unwritten_more : (bs : List (Option BlockCells)) (x : BlockCells) → x.tag ≡ 0 → x.struck ≡ false → IsUnwritten bs → IsUnwritten (bs ++ Some x ∷ [])
 unwritten_more [] x t s all zero = (t, s)
@@ -103,11 +99,6 @@ closing e p rs s all = record {
 pub gathered_room : (ss : List Stored) → IsGathered ss → HasRoom ss
 gathered_room ss all = let a = all any_record in omega (arith, a)
 
--- the first store, and the others
-pub stored_first : (p : Record → Bool) (ss : List Stored) (d : Stored) → 0 < length ss → stored p ss ≡ count p (get_or ss 0 d).records + stored p (remove ss 0)
-stored_first p [] d l = absurd (omega (arith, l))
-stored_first p (x ∷ xs) d l = refl
-
 taken_falls : (p : Record → Bool) (ss : List Stored) (i : ℕ) → stored p (take i ss) ≤ stored p ss
 taken_falls p ss zero = omega arith
 taken_falls p [] (suc i) = omega arith
@@ -116,13 +107,6 @@ taken_falls p (s ∷ ss) (suc i) = let a = taken_falls p ss i in omega (arith, a
 -- the records of the stores so far stand at one that had room for all
 abbrev pub IsJoined : List Stored → List Stored → ℕ → Stored → Type 0
 IsJoined ss rest i x = ((p : Record → Bool) → stored p ss ≡ count p (get_or ss 0 no_store).records + stored p rest) × ((p : Record → Bool) → count p x.records ≡ count p (get_or ss 0 no_store).records + stored p (take i rest)) × (stored any_record ss ≤ count any_record x.records + x.room)
-
-pub joined_first : (ss rest : List Stored) (x : Stored) → 0 < length ss → HasRoom ss → rest ≡ remove ss 0 → x ≡ get_or ss 0 x → IsJoined ss rest 0 x
-joined_first ss rest x l room is first = let same : x ≡ get_or ss 0 no_store = first ∙ any_store ss 0 x l in (
-  λ p. stored_first p ss no_store l ∙ ap (λ r. count p (get_or ss 0 no_store).records + stored p r) (sym is),
-  λ p. let a = ap (λ (y : Stored). count p y.records) same in omega (arith, a),
-  subst (λ (y : Stored). stored any_record ss ≤ count any_record y.records + y.room) (sym same) room,
-)
 
 pub joined_room : (ss rest : List Stored) (i : ℕ) (x d : Stored) → i < length rest → IsJoined ss rest i x → length (get_or rest i d).records ≤ x.room
 joined_room ss rest i x d l all = let a = all.0 any_record in let b = all.1 any_record in let c = all.2 in let f = stored_take any_record rest i d l in let g = taken_falls any_record rest (i + 1) in let h : count any_record (get_or rest i d).records ≡ length (get_or rest i d).records = all_count (get_or rest i d).records in omega (arith, a, b, c, f, g, h)
@@ -133,9 +117,6 @@ joined_more ss rest i x y d more l is grown room all = (
   (λ p. let a = ap (count p) grown in let b = count_append p x.records more in let c = all.1 p in let f = stored_take p rest i d l in let g = ap (count p) is in omega (arith, a, b, c, f, g)),
   let a = ap (count any_record) grown in let b = count_append any_record x.records more in let c = all.2 in let f : count any_record more ≡ length more = all_count more in omega (arith, a, b, c, f, room),
 )
-
-pub joined_all : (ss rest : List Stored) (i : ℕ) (x : Stored) → length rest ≤ i → IsJoined ss rest i x → IsAll x.records ss
-joined_all ss rest i x l all p = let a = all.0 p in let b = all.1 p in let c = ap (stored p) (take_all i rest l) in omega (arith, a, b, c)
 
 pub more_stores : (ss new : List Stored) (x : Stored) (n : ℕ) → new ≡ ss ++ x ∷ [] → x.records ≡ [] → (length ss ≡ n) × IsBare ss → (length new ≡ n + 1) × IsBare new
 more_stores ss new x n is none old = (ap length is ∙ one_more ss x ∙ ap (λ m. m + 1) old.0, λ p. ap (stored p) is ∙ bare_more ss x none old.1 p)

@@ -18,7 +18,6 @@ pub mod Recording
 pub mod Resulting
 pub mod Rooting
 pub mod Seats
-pub mod Serving
 pub mod Sounding
 pub mod TableSteps
 pub mod Telling

@@ -1,7 +1,7 @@
 -- The numbers of a row's words, and the lives that a view works for, are small.
 use Rattle.std.proofs.Common.{◌≡◌, ℕ, ◌+◌, ◌-◌, ◌^◌, ◌<◌, ◌≤◌, ◌&&◌, eqb, Bool, true, false, arith, ap, subst, inl, inr, ⊎_elim}
 use Rattle.core_state.specs.Graph.{Setting, Sound}
-use Rattle.core_state.specs.Words.{recovery, empty_word, standing_life, replacing}
+use Rattle.core_state.specs.Words.{recovery, standing_life, replacing}
 use Rattle.core_state.specs.Laws.{IsPlace}
 use Rattle.core_state.specs.Change.{Core}
 use Rattle.core_state.specs.Guards.{CanClose, CanElect, CanSpend, Spends, KnowsRow}
@@ -9,15 +9,13 @@ use Rattle.core_state.specs.Guards.Spends.{exploring, notifying, reentering, its
 use Rattle.core_state.specs.Counts.{hit, held, items, in_stacks}
 use Rattle.core_state.specs.Tests.{carries, is_renew, is_renew_at, is_suspect}
 use Rattle.core_state.specs.Effects.{finish_left}
-use Rattle.core_state.specs.Packed.{IsLife, bit_of, descriptor_word, notify_word, recovery_word}
+use Rattle.core_state.specs.Packed.{IsLife, bit_of, recovery_word}
 use Rattle.core_state.specs.Rows.{Replacing}
 use Rattle.core_state.specs.Views.{on_top, without_first}
 use Rattle.core_state.specs.declared.job.Job.TheVariants.{Compute}
 use Rattle.core_state.specs.declared.views.Item.{Item}
 use Rattle.core_state.specs.declared.views.Item.TheVariants as item
 use Rattle.core_state.specs.declared.views.View.{View}
-use Rattle.core_state.specs.declared.words.Descriptor.{Descriptor}
-use Rattle.core_state.specs.declared.words.NotifyWord.{NotifyWord}
 use Rattle.core_state.specs.declared.words.Recovery.{Recovery}
 use Rattle.graph_model.specs.declared.record.Cause.{Cause}
 use Rattle.core_state.proofs.Base.Counting.{eqb_here, three_else, two_here}
@@ -92,13 +90,6 @@ module _ (e : Setting) (fit : Sound e) (v : View) (r k j : ℕ) (can : CanSpend 
 
   pub place_few : j ≤ 40
   place_few = let a = fit.lawful.few_places k in ⊎_elim (λ less. omega (arith, a, less)) (λ is. omega (arith, is)) (spends_place can.edge)
-
--- the words of the next life, with nothing done in it
-pub empty_notify : (x : NotifyWord) (l : ℕ) → x.life ≡ l + 1 → x.struck ≡ false → x.closed ≡ false → x.ports ≡ 0 → notify_word x ≡ empty_word (l + 1)
-empty_notify x l life unstruck unclosed none = let a = ap bit_of unstruck in let b = ap bit_of unclosed in omega (arith, life, none, a, b)
-
-pub empty_descriptor : (x : Descriptor) (l : ℕ) → x.life ≡ l + 1 → x.struck ≡ false → x.spent ≡ 0 → descriptor_word x ≡ empty_word (l + 1)
-empty_descriptor x l life unstruck none = let a = ap bit_of unstruck in omega (arith, life, none, a)
 
 pub next_stands : (x : Recovery) (l : ℕ) → x.life ≡ l + 1 → x.renewing ≡ false → recovery_word x ≡ finish_left l
 next_stands x l life stands = let a = ap bit_of stands in omega (arith, life, a)

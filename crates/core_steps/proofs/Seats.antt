@@ -1,5 +1,5 @@
 -- What a seat's caller learns of a step.
-use Rattle.std.proofs.Common.{◌≡◌, ℕ, ◌+◌, ◌<◌, ◌≤◌, List, length, get_or, set, arith, sym, ap, ◌∙◌, subst, Option, Some, None}
+use Rattle.std.proofs.Common.{◌≡◌, ℕ, ◌+◌, ◌<◌, ◌≤◌, List, length, get_or, set, arith, sym, ap, ◌∙◌, subst}
 use Rattle.std.proofs.lemmas.List.{set-set}
 use Rattle.core_state.specs.Graph.{Setting}
 use Rattle.core_state.specs.Words.{Shape, place_of}
@@ -10,7 +10,7 @@ use Rattle.core_state.proofs.Own.Found.{found_of}
 use Rattle.core_state.proofs.Own.Sure.{sure_of}
 use Rattle.core_state.proofs.Base.Words.{read_at}
 use Rattle.core_state.specs.Views.{blank}
-use Rattle.core_steps.specs.Seat.{IsStep, key_event, last_after}
+use Rattle.core_steps.specs.Seat.{IsStep, last_after}
 use Rattle.core_steps.specs.Table.{Plain, IsSound, IsTableStep, core_by, view_at}
 use Rattle.core_steps.specs.declared.kinds.Touched.{Touched}
 use Rattle.core_state.specs.Counts.{total_of}
@@ -49,11 +49,6 @@ seat_step setting view made last shown happened lender others x s t i word p q h
     sure = subst (λ (o : Setting). IsSure o (view t)) (sym same_setting) (subst (λ (u : View). IsSure (setting s) u) (sym now) (sure_of (setting s) (core_by q.shape q.words q.blocks q.views) h.afterwards.holds (view_at q i) (seat_within q i (let a = h.workers_are in let b = h.low in omega (arith, a, b)))));
   };
 }
-
--- a claim and a look are noted as such
-pub key_last : (row : ℕ) (claimed : Option ℕ) (n : ℕ) (now before : ℕ × ℕ) → now ≡ (row, n) → now ≡ last_after (key_event row claimed) n before
-key_last row None n now before is = is
-key_last row (Some k) n now before is = is
 
 -- a worker's view is overwritten
 pub set_twice : {A : Type 0} (l : List A) (i : ℕ) (a b : A) → set (set l i a) i b ≡ set l i b

@@ -4,7 +4,7 @@ use Rattle.core_state.specs.Graph.{Setting}
 use Rattle.core_state.specs.Words.{place_of}
 use Rattle.core_state.specs.Counts.{count, in_hand, total_of}
 use Rattle.core_state.specs.Tests.{is_hand}
-use Rattle.core_state.specs.Change.{Core, Sums}
+use Rattle.core_state.specs.Change.{Sums}
 use Rattle.core_state.specs.Cover.{Passed}
 use Rattle.core_state.specs.Invariant.{Invariant}
 use Rattle.core_state.specs.Prevented.{Prevented}
@@ -28,10 +28,6 @@ use Rattle.core_steps.specs.Kinds.{event_of, moves_block}
 use Rattle.core_steps.specs.Table.{Plain, Stored, IsHoused, Keeps, IsSound, IsWordAt, as_list, core_by, entered, home_at, kept_list, kept_room, kept_store, no_store, stepped_by, view_at, word_count}
 use Rattle.core_steps.specs.declared.kinds.Kind.{Kind}
 use Rattle.core_steps.specs.declared.kinds.Touched.{Touched}
-
--- the core of a table with these words, blocks at home and views
-abbrev pub core_with : Plain → List ℕ → List (Option BlockCells) → List View → Core
-core_with p ws bs vs = core_by p.shape ws bs vs
 
 -- sums over the views of a table
 pub sums_of : (p : Plain) → Sums (core_by p.shape p.words p.blocks p.views)

@@ -1,15 +1,13 @@
 -- What a walk of claims along a key's path leaves of the view of its seat: only the last claim can have made the row.
 use Rattle.std.proofs.Common.{◌≡◌, ◌≢◌, ℕ, zero, suc, ◌+◌, ◌-◌, ◌<◌, ◌≤◌, Bool, true, false, cond, eqb, ne_eqb, List, [], ◌∷◌, arith, sym, ap, refl, ◌∙◌, subst, Option, Some, None}
 use Rattle.core_state.specs.Graph.{Setting}
-use Rattle.core_state.specs.Counts.{word_in, count, in_stacks}
-use Rattle.core_state.specs.Tests.{is_owe}
-use Rattle.core_state.specs.Guards.{AtWork, CanBuy}
+use Rattle.core_state.specs.Counts.{word_in, count}
+use Rattle.core_state.specs.Guards.{AtWork}
 use Rattle.core_state.specs.Effects.{after_claim}
 use Rattle.core_state.specs.Events.{after}
 use Rattle.core_state.specs.Events.Event.{claim}
 use Rattle.core_state.specs.Views.{settle, is_finished, unfinished, ends_finished, ends_with, on_top, top_items, push, note, learn, key_of}
 use Rattle.core_state.specs.declared.answers.Claim.TheVariants as claimed_as
-use Rattle.core_state.specs.declared.job.Job.{Job}
 use Rattle.core_state.specs.declared.job.Job.TheVariants.{Explore}
 use Rattle.core_state.specs.declared.views.Item.{Item}
 use Rattle.core_state.specs.declared.views.Item.TheVariants as item
@@ -66,10 +64,6 @@ owes k ks v w x is work = record {
 -- other facts change nothing at work
 pub still_at_work : (ks : List Known) (v w : View) (x : Item) → w ≡ knowing ks v → AtWork v x → AtWork w x
 still_at_work ks v w x is work = record { stack = work.stack; others = work.others; below = work.below; stacks_are = ap (λ (u : View). u.stacks) is ∙ work.stacks_are; items_are = work.items_are }
-
--- and without a spare credit may buy one
-pub owed_can_buy : (e : Setting) (k l : ℕ) (j : Job) (v : View) → AtWork v (item.Owe k j l) → v.spare ≡ 0 → CanBuy e v
-owed_can_buy e k l j v work none = record { needed = let a = ap (in_stacks is_owe) work.stacks_are in let b = ap (count is_owe) work.items_are in omega (arith, a, b, none) }
 
 -- the key of a row after a claim that found the number n
 key_met : ℕ → ℕ → ℕ

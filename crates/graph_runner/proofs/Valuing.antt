@@ -14,7 +14,7 @@ use Rattle.audit_checks.specs.Tasks.{key_of, keys_of, places_of}
 use Rattle.acyclic_audit.specs.Views.{graph, tree_at}
 use Rattle.acyclic_audit.specs.declared.graph.FileGraph.{FileGraph}
 use Rattle.serial_run.specs.Computing.{Fits, computed_of}
-use Rattle.serial_run.proofs.Serials.{serial_step}
+use Rattle.graph_model.proofs.Serials.{serial_step}
 use Rattle.graph_runner.specs.Accepting.{IsAcceptedAs}
 use Rattle.graph_runner.specs.Evaluating.{Evaluates}
 use Rattle.graph_runner.specs.Formulas.{cells_of, formula_outcome, FitsFormula}

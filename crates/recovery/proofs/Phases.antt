@@ -48,15 +48,6 @@ no_life (turn.Met row k l c) r is = tt
 no_life (turn.Given row k i l) r is = tt
 no_life (turn.LivesSpent k l c) r is = absurd cc
 
-pub going_spends : (p : Phase) → is_spent (going p) ≡ false
-going_spends phase.Suspect = refl
-going_spends (phase.Renew done) = refl
-going_spends phase.Finish = refl
-going_spends (phase.Owe owe behind) = refl
-going_spends (phase.Reenter reenter) = refl
-going_spends phase.Passed = refl
-going_spends phase.Over = refl
-
 module _ (g : TaskGraph) (e : Setting) (v w : View) (before : Recover) (fits : Fits g e v before) (knows : Remembers v w) where
   -- the replacement in its next phase, by what that rests on
   pub moves : (next : Phase) (now : Recover) (t told : Turn) → now ≡ record before { phase = next } → told ≡ t
@@ -168,7 +159,3 @@ pub goes_nowhere : (g : TaskGraph) (e : Setting) (v : View) (r now : Recover) (t
 goes_nowhere g e v r now told fits over credits same told_is = moves g e v v r fits (record { rows_stay = λ x k is. is; facts_stay = λ f. omega arith }) phase.Over now turn.Done told same told_is
     (λ b old. ⊎_elim (λ is. passed_gone e v r.key.0 (r.life + 1) b (lines_in e v r phase.Passed b is old)) (λ is. lines_in e v r phase.Over b is old) over) tt refl
     (credits ∙ ⊎_elim (λ is. ap phase_credits is) (λ is. ap phase_credits is) over)
-
--- The greatest life is met again.
-pub goes_not : (g : TaskGraph) (e : Setting) (v : View) (r : Recover) → Fits g e v r → r.phase ≡ phase.Suspect → v.spare ≡ phase_credits r.phase → Recovers g e v v r r (turn.LivesSpent r.key r.life r.cause)
-goes_not g e v r fits is credits = record { lines = λ b lines. lines; fits = fits; tells = is; credits = credits; same = refl }

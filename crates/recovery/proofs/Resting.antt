@@ -95,14 +95,6 @@ renewing_is l m n is = by (nat_eq n (2 * (l - 1))) (nat_lt l (standing_life n)) 
     by false true told = absurd cc
     by false false told = cc
 
--- what is left pays for its next turn, where anything is left
-pub rest_pays : (e : Setting) (r : Recover) → is_over r.phase ≡ false → turn_cost r.phase ≤ recover_rest e r
-rest_pays e r = by r.phase
-  where
-    owes : (b : Bool) (n : ℕ) → cond b 4 1 ≤ cond b 5 6 + n
-    owes true n = omega arith
-    owes false n = omega arith
-
     by : (p : Phase) → is_over p ≡ false → turn_cost p ≤ phase_rest e r.key.0 p
     by phase.Suspect left = omega arith
     by (phase.Renew done) left = omega arith

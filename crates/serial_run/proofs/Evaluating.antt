@@ -15,7 +15,8 @@ use Rattle.graph_model.specs.Reaching.{IsNumber, AreFlags}
 use Rattle.serial_run.specs.Turns.{IsTurn, AreTurns, turns_for}
 use Rattle.serial_run.specs.Values.{HasValue, HasInputs}
 use Rattle.serial_run.specs.declared.turns.Turn.{Turn}
-use Rattle.serial_run.proofs.Gathering.{pred_there, take_next}
+use Rattle.graph_model.proofs.Members.{pred_there}
+use Rattle.serial_run.proofs.Gathering.{take_next}
 use Rattle.serial_run.proofs.Listing.{hits}
 use Rattle.serial_run.proofs.Numbers.{same_number, number_from, task_from}
 

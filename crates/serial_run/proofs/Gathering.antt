@@ -6,7 +6,6 @@ use Rattle.graph_model.specs.Graph.{Graph, IsTask, IsPred, IsLawful}
 use Rattle.graph_model.specs.Serial.{inputs_of}
 use Rattle.graph_model.specs.Reaching.{IsNumber}
 use Rattle.serial_run.specs.Values.{HasInputs}
-use Rattle.serial_run.proofs.Numbers.{there}
 
 -- the data predecessors at places below j
 abbrev pub inputs_below : Graph → ℕ → ℕ → List ℕ
@@ -18,10 +17,6 @@ pub record IsGathering (g : Graph) (values : List ℤ) (k j : ℕ) (inputs befor
   pub few_cells : cells_in inputs.lists ≤ j
   pub lists : inputs.most_lists ≡ before.most_lists
   pub cells : inputs.most_cells ≡ before.most_cells
-
--- a predecessor is a task
-pub pred_there : (g : Graph) → IsLawful g → (k j p q : ℕ) → IsTask g k → IsPred g k j p q → IsTask g p
-pred_there g lawful k j p q task pred = there g.keys p (lawful.pred_task k j p q task pred)
 
 pub take_next : {X : Type 0} (xs : List X) (j : ℕ) (x : X) → slice_get xs j ≡ Some x → take (suc j) xs ≡ take j xs ++ x ∷ []
 take_next [] j x here = absurd (cc)

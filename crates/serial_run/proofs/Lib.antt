@@ -2,4 +2,3 @@ pub mod Evaluating
 pub mod Gathering
 pub mod Listing
 pub mod Numbers
-pub mod Serials

@@ -1,7 +1,6 @@
 -- Tasks by their numbers, where keys ascend.
 use Rattle.std.proofs.Common.{◌≡◌, ◌∙◌, ℕ, zero, suc, ◌+◌, ◌-◌, ◌<◌, ◌≤◌, ◌⊎◌, inl, inr, List, [], ◌∷◌, length, get_or, slice_get, Contains, Some, sym, subst, ap, arith}
-use Rattle.std.proofs.lemmas.Bool.{cases_eq, cases_lt}
-use Rattle.std.proofs.lemmas.Grind.{not_there}
+use Rattle.std.proofs.lemmas.Bool.{cases_lt}
 use Rattle.std.proofs.lemmas.Option.{slice_get-get_or, slice_get_within, get_or_from_slice_get}
 use Rattle.std.specs.List.Sorted.{IsStrictlyIncreasing}
 
@@ -35,24 +34,6 @@ number_from keys k has = (has.0, slice_get-get_or keys has.0 k has.1 ∙ ap Some
 
 pub task_from : (keys : List ℕ) (i k : ℕ) → slice_get keys i ≡ Some k → Contains keys k
 task_from keys i k here = (i, slice_get_within keys i k here, get_or_from_slice_get keys i k k here)
-
-behind : (x : ℕ) (xs : List ℕ) (k : ℕ) → (x ≡ k → ⊥) → ¬ Contains xs k → (i : ℕ) → i < length (x ∷ xs) → get_or (x ∷ xs) i k ≡ k → ⊥
-behind x xs k other none zero inside here = other here
-behind x xs k other none (suc i) inside here = none (i, omega arith, here)
-
--- whether a key stands among the keys
-has_or_not : (xs : List ℕ) (k : ℕ) → Contains xs k ⊎ (¬ Contains xs k)
-has_or_not [] k = inr (λ has. let inside : has.0 < 0 = has.1 in absurd (omega arith))
-has_or_not (x ∷ xs) k = elim (cases_eq x k) [
-  | inl here ↦ inl (0, omega arith, here)
-  | inr other ↦ elim (has_or_not xs k) [
-    | inl has ↦ inl (suc has.0, (let inside : has.0 < length xs = has.1 in omega arith), has.2)
-    | inr none ↦ inr (λ has. behind x xs k other none has.0 has.1 has.2)
-  ]
-]
-
-pub there : (keys : List ℕ) (k : ℕ) → ∥ Contains keys k ∥₁ → Contains keys k
-there keys k some = elim (has_or_not keys k) [ inl has ↦ has | inr none ↦ absurd (not_there some none) ]
 
 -- ---- the search
 

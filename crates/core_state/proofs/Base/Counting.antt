@@ -25,9 +25,6 @@ three_here a b c = rw (eqb_here a, eqb_here b, eqb_here c)
 pub three_else : (a b c x y z : ℕ) → (hit (three a b c x y z) ≡ 0) ⊎ ((a ≡ x) × (b ≡ y) × (c ≡ z))
 three_else a b c x y z = ⊎_elim (λ p. ⊎_elim (λ q. ⊎_elim (λ r. inr (p.1, q.1, r.1)) (λ r. inl (rw (p.0, q.0, r.0))) (eqb_tells c z)) (λ q. inl (rw (p.0, q.0))) (eqb_tells b y)) (λ p. inl (rw p.0)) (eqb_tells a x)
 
-pub split3 : (P : ℕ → ℕ → ℕ → Type 0) (a b c x y z : ℕ) → (hit (three a b c x y z) ≡ 0 → P a b c) → (hit (three x y z x y z) ≡ 1 → P x y z) → P a b c
-split3 P a b c x y z f t = ⊎_elim f (λ e. alike (λ u. P u b c) a x e.0 (alike (λ u. P x u c) b y e.1 (alike (λ u. P x y u) c z e.2 (t (three_here x y z))))) (three_else a b c x y z)
-
 pub three_apart : (a b c x y z : ℕ) → ((a ≡ x) × (b ≡ y) × (c ≡ z) → ⊥) → hit (three a b c x y z) ≡ 0
 three_apart a b c x y z f = ⊎_elim (λ e. e) (λ e. absurd (f e)) (three_else a b c x y z)
 

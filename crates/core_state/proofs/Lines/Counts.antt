@@ -41,10 +41,6 @@ items_counted p v = of_stacks v.stacks
 pub top_passes : (p : Item → Bool) (v : View) (x : Item) (b : List Line) → flat v.stacks ≡ of x ∷ b → p x ≡ true → 0 < items p v
 top_passes p v x b is passes = let a = items_counted p v ∙ ap (counted p) is in let c = bump_is (p x) (counted p b) in let d = ap hit passes in omega (arith, a, c, d)
 
--- so is one below
-pub below_passes : (p : Item → Bool) (v : View) (x : Item) (b : List Line) → flat v.stacks ≡ of x ∷ b → 0 < counted p b → 0 < items p v
-below_passes p v x b is below = let a = items_counted p v ∙ ap (counted p) is in let c = bump_is (p x) (counted p b) in omega (arith, a, c, below)
-
 module _ (e : Setting) (v : View) where
   -- what a call that strikes asks, by the first line
   pub makes_strike : (x : Item) (b : List Line) (n k l : ℕ) (on : Target) → flat v.stacks ≡ of x ∷ b → strike_at e.graph e.plan v.strikes (passing e.graph x) ≡ some n → (e.plan.strike n).key.0 ≡ k → (e.plan.strike n).life ≡ l → (e.plan.strike n).target ≡ on → MakesStrike e v k l on

@@ -45,11 +45,11 @@ ports_next w n m t b (suc c) low high set below unset same = dite (ℕ_discrete 
     ∙ ap (λ xs. (40 * w + t) ∷ xs) (sym (ap (λ x. cond (nat_eq x 1) ((40 * w + b) ∷ ports_from w m (b + 1) c) (ports_from w m (b + 1) c)) (same b ne ∙ zero_here))))
 
 -- what is left of the bits of the number before it
-record Lowered (n t : ℕ) : Type 0 where
-  unset : bit_at (n - 1) t ≡ 0
-  above : (i : ℕ) → t < i → bit_at (n - 1) i ≡ bit_at n i
+pub record Lowered (n t : ℕ) : Type 0 where
+  pub unset : bit_at (n - 1) t ≡ 0
+  pub above : (i : ℕ) → t < i → bit_at (n - 1) i ≡ bit_at n i
 
-lowered : (t n : ℕ) → bit_at n t ≡ 1 → ((i : ℕ) → i < t → bit_at n i ≡ 0) → Lowered n t
+pub lowered : (t n : ℕ) → bit_at n t ≡ 1 → ((i : ℕ) → i < t → bit_at n i ≡ 0) → Lowered n t
 lowered zero n set below = let odd : n % 2 ≡ 1 = sym (bit_at_lowest n) ∙ set in record {
   unset = bit_at_lowest (n - 1) ∙ (let a : (n - 1) % 2 ≡ 0 = omega (arith, odd) in a);
   above = λ i high. higher i high odd;

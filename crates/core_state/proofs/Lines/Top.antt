@@ -32,10 +32,6 @@ topped (s ∷ ss) x b is = by s.items refl is
 pub at_work : (v : View) (x : Item) (b : List Line) → flat v.stacks ≡ of x ∷ b → AtWork v x
 at_work v x b is = let t = topped v.stacks x b is in record { stack = t.stack; others = t.others; below = t.below; stacks_are = t.stacks_are; items_are = t.items_are }
 
--- an item that is served next is the first line
-pub working_line : (v : View) (x : Item) → AtWork v x → (b : List Line) × (flat v.stacks ≡ of x ∷ b)
-working_line v x w = (onto w.below (credit ∷ flat w.others), ap flat w.stacks_are ∙ ap (λ xs. onto xs (credit ∷ flat w.others)) w.items_are)
-
 -- no line, a credit or an item comes first
 pub lines_empty : (ss : List Stack) → flat ss ≡ [] → ss ≡ []
 lines_empty [] is = refl

@@ -3,12 +3,11 @@ use Rattle.std.proofs.Common.{◌≡◌, ◌≢◌, ◌⊎◌, ℕ, suc, ◌+◌
 use mathlib.Core.Logic.{dite}
 use native.Mathlib.Decide.{ℕ_discrete}
 use Rattle.std.proofs.lemmas.Nat.Bits.{bit_at-zero}
-use Rattle.std.proofs.lemmas.Bool.{lt-ltb, le-ltb}
 use Rattle.core_state.specs.Graph.{Edge, Setting, Sound, Reached}
 use Rattle.core_state.specs.Graph.Reached.{through}
 use Rattle.core_state.specs.Words.{Spot, pending, key, descriptor, notify, recovery, posted, life_of, standing_life, replacing}
 use Rattle.core_state.specs.Counts.{hit, bump, count, items, in_stacks, noted, knows_row, ended, waits, stack_count, spare, too_many}
-use Rattle.core_state.specs.Tests.{two, is_at, is_owed, is_owe, is_exploring, carries, is_renew, is_suspect, is_unmade, is_made, is_compute, is_close, is_close_from, is_notify, notifies, suspects_block, is_of, is_created, is_spent, is_closed, is_struck, is_replaced, is_computed, is_written, is_row, came_with}
+use Rattle.core_state.specs.Tests.{two, is_at, is_owed, is_owe, is_exploring, carries, is_renew, is_suspect, is_made, is_close, is_close_from, is_notify, notifies, suspects_block, is_of, is_created, is_spent, is_closed, is_struck, is_replaced, is_computed, is_written, came_with}
 use Rattle.core_state.specs.Change.{Core, Change, Sums, many}
 use Rattle.core_state.specs.Rows.{HasKey, HasRow, Keys, Empty, LifeOf, Lives, Shows, Lists, Content}
 use Rattle.core_state.specs.Work.{Credits}
@@ -103,10 +102,6 @@ carries_at job.Explore k l (item.Explore a m j) z = (both (eqb k a) (eqb l m) z)
 carries_at job.Compute k l (item.Compute a m b d f) z = (both (eqb k a) (eqb l m) z).0
 carries_at job.Compute k l (item.Close a m j) z = (both (eqb k a) (eqb l m) z).0
 carries_at i k l x z = absurd cc
-
-pub unmade_at : (k l : ℕ) (x : Item) → is_unmade k l x ≡ true → is_at k x ≡ true
-unmade_at k l (item.Compute a m b d f) z = (both (eqb k a) (eqb l m) (both (two k l a m) (cond f false true) z).0).0
-unmade_at k l x z = absurd cc
 
 pub made_at : (k l : ℕ) (x : Item) → is_made k l x ≡ true → is_at k x ≡ true
 made_at k l (item.Compute a m b d f) z = (both (eqb k a) (eqb l m) (both (two k l a m) f z).0).0

@@ -6,7 +6,7 @@ use Rattle.core_state.specs.Graph.{Setting, Graph, Plan}
 use Rattle.core_state.specs.Words.{pending, stop, key, descriptor, notify, recovery, posted, turn, spot_of, life_shown, mark_shown}
 use Rattle.core_state.specs.Counts.{hit, items, owed, held, ended, begun, came, noted, facts, knows_row, waits, in_hand, in_wrong_hand, struck_by, struck_idly, struck_upto, stack_count, spare, too_many}
 use Rattle.core_state.specs.Tests.{is_at, is_owed, is_owe, carries, explores, is_unmade, is_compute, is_made, is_made_any, is_close, is_close_from, is_notify, is_renew, is_renew_at, is_suspect, is_suspect_for, is_any_suspect, suspects_block, notifies, reenters, is_idle, is_stopped, is_stops, is_seen_life, is_seen_mark, is_seen_closed, job_of, is_created, is_computed, is_written, is_closed, is_spent, is_struck_upto, is_replaced, is_replaced_for, is_version}
-use Rattle.core_state.specs.Change.{Core, Shift, Sums, many}
+use Rattle.core_state.specs.Change.{Core, Shift, many}
 use Rattle.core_state.specs.Rows.{HasRow, Keys}
 use Rattle.core_state.specs.Work.{Credits, is_made_early}
 use Rattle.core_state.specs.Cover.{covers_self, covers_edge}
@@ -140,6 +140,3 @@ module _ (e : Setting) (s t : Core) (v : View) (c : Shift s t v (settle e.graph 
     activity = settle_activity e s t v c (λ k l some r old w i z. (inv.work.computings.each r k l old some).closing w i z) inv.activity;
     no_fault = wide_no_fault e s t (λ r. c.words (key r)) (λ r. c.words (recovery r)) more (λ unstruck old. it is_any_suspect record { notify = λ a b d. refl; reenter = λ a b. refl; close = λ a b d. refl } ∙ old.none_suspected) (λ b y. recs (is_version b y)) c.blocks inv.no_fault;
   }
-
-pub keeps_settle : (e : Setting) (s t : Core) (v : View) → Shift s t v (settle e.graph e.plan v) → Invariant e s → Sums s → Invariant e t
-keeps_settle e s t v c inv sums = keeps_settled e s t v c inv sums.none sums.add

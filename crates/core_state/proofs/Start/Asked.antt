@@ -9,7 +9,8 @@ use Rattle.core_state.specs.Graph.{Graph, Edge, Reached}
 use Rattle.core_state.specs.Graph.Reached.{itself, through}
 use Rattle.core_state.specs.Rooted.{root_key, graph_of}
 use Rattle.core_state.specs.Asked.{IsCoreKey, IsGraphOf, InEachGraphOf, InSomeGraphOf}
-use Rattle.core_state.proofs.Start.Widest.{is_member, sink_task}
+use Rattle.graph_model.proofs.Members.{is_member}
+use Rattle.core_state.proofs.Start.Widest.{sink_task}
 use Rattle.core_state.proofs.Start.Root.{writer_task, cells_root, cells_task}
 use Rattle.core_state.proofs.Start.Setting.{task_matches, root_matches}
 

@@ -16,7 +16,8 @@ use Rattle.core_state.specs.Shapes.{edges_of, words_of}
 use Rattle.core_state.specs.Rooted.{rooted}
 use Rattle.graph_model.proofs.Index.{some_at}
 use Rattle.core_state.proofs.Base.Counting.{eqb_here}
-use Rattle.core_state.proofs.Start.Widest.{is_member, sink_task}
+use Rattle.graph_model.proofs.Members.{is_member}
+use Rattle.core_state.proofs.Start.Widest.{sink_task}
 use Rattle.core_state.proofs.Start.Root.{which, by_root, by_task, by_none, below_by, place_of_key, port_of_key, pred_root, pred_task, succ_root, succ_task, rank_root, rank_task, version_of_block, versions_root, versions_task, writer_root, writer_task, value_root, value_task}
 
 -- some place that names the task

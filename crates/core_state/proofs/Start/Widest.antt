@@ -1,10 +1,11 @@
 -- The widest of the first tasks of a graph.
-use Rattle.std.proofs.Common.{◌≡◌, ◌≢◌, ◌∙◌, ℕ, zero, suc, ◌+◌, ◌<◌, ◌≤◌, max, List, [], ◌∷◌, length, Option, Some, None, slice_get, slice_index_or, Contains, ◌++◌, ◌⊎◌, inl, inr, ⊎_elim, sym, ap, subst, refl, arith, Vec, Global, length-append}
+use Rattle.std.proofs.Common.{◌≡◌, ◌≢◌, ◌∙◌, ℕ, zero, suc, ◌+◌, ◌<◌, ◌≤◌, max, List, [], ◌∷◌, length, Option, Some, None, slice_get, slice_index_or, ◌++◌, ◌⊎◌, ⊎_elim, sym, ap, subst, refl, arith, Vec, Global, length-append}
 use Rattle.std.proofs.Math.Logic.{∥∥₁_elim}
 use Rattle.std.proofs.lemmas.Option.{slice_get_within, get_or_from_slice_get}
 use mathlib.Core.Logic.{dite}
 use native.Mathlib.Decide.{ℕ_discrete}
 use Rattle.graph_model.specs.Graph.{Graph, IsTask, IsLawful}
+use Rattle.graph_model.proofs.Members.{is_member}
 use Rattle.core_state.specs.Shapes.{IsWidest, IsLayoutOf, words_of}
 
 -- the number is the least that is at least 1 and at least what each of the first i tasks needs
@@ -24,21 +25,6 @@ task_here : (xs : List ℕ) (i k : ℕ) → i < length xs → slice_index_or xs 
 task_here [] i k low at = absurd (omega (arith, low))
 task_here (x ∷ xs) zero k low at = ap Some at
 task_here (x ∷ xs) (suc i) k low at = task_here xs i k (omega (arith, low)) at
-
-absurd_alike : (x y : ⊥) → x ≡ y
-absurd_alike x y = absurd x
-
--- an element that is there by some proof can be found
-pub found : (xs : List ℕ) (k : ℕ) → ((i : ℕ) × (i < length xs) × (slice_index_or xs i k ≡ k)) ⊎ (¬ Contains xs k)
-found [] k = inr (λ has. omega (arith, has.1))
-found (x ∷ xs) k = dite (ℕ_discrete x k) (λ e. inl (0, omega arith, e)) (λ ne. ⊎_elim (λ z. inl (suc z.0, omega (arith, z.1), z.2)) (λ lacks. inr (λ has. later x xs k ne lacks has.0 has.1 has.2)) (found xs k))
-  where
-    later : (x : ℕ) (xs : List ℕ) (k : ℕ) → x ≢ k → ¬ Contains xs k → (i : ℕ) → i < length (x ∷ xs) → slice_index_or (x ∷ xs) i k ≡ k → ⊥
-    later x xs k ne lacks zero low at = ne at
-    later x xs k ne lacks (suc i) low at = lacks (i, omega (arith, low), at)
-
-pub is_member : (xs : List ℕ) (k : ℕ) → ∥ Contains xs k ∥₁ → Contains xs k
-is_member xs k some = ⊎_elim (λ z. z) (λ lacks. absurd (∥∥₁_elim some absurd_alike lacks)) (found xs k)
 
 -- what stands at a place of the list is a task
 pub is_task : (g : Graph) (i k : ℕ) → slice_get g.keys i ≡ Some k → IsTask g k

@@ -4,7 +4,8 @@ use Rattle.std.proofs.lemmas.Int.{to_z-of_z}
 use Rattle.std.proofs.Common.{get_or, ◌<◌, length, subst, arith, rules, pos}
 use Rattle.std.proofs.lemmas.Option.{slice_get_within, slice_get-get_or}
 use Rattle.graph_model.specs.Edges.{IsKind}
-use Rattle.serial_run.proofs.Gathering.{pred_there, gather_data, gather_order}
+use Rattle.graph_model.proofs.Members.{pred_there}
+use Rattle.serial_run.proofs.Gathering.{gather_data, gather_order}
 use Rattle.serial_run.proofs.gather.gather.Goals.{in-Data, in-Order}
 use Rattle.serial_run.proofs.gather.gather.Goals as goal
 

@@ -6,7 +6,7 @@ use Rattle.graph_model.specs.Graph.{IsTask}
 use Rattle.graph_model.specs.Serial.{serial}
 use Rattle.serial_run.specs.Values.{HasInputs}
 use Rattle.serial_run.proofs.Numbers.{task_from}
-use Rattle.serial_run.proofs.Serials.{serial_step}
+use Rattle.graph_model.proofs.Serials.{serial_step}
 use Rattle.serial_run.proofs.Evaluating.{one_cell}
 use Rattle.serial_run.proofs.serial.compute_task.Goals as goal
 

@@ -11,7 +11,7 @@ use Rattle.serial_run.specs.Values.{HasInputs}
 use Rattle.serial_run.specs.Turns.{AreTurns}
 use Rattle.serial_run.specs.declared.turns.Turn.{Turn}
 use Rattle.serial_run.specs.Computing.{computed_of}
-use Rattle.serial_run.proofs.Numbers.{there}
+use Rattle.graph_model.proofs.Members.{is_member}
 use Rattle.serial_run.proofs.Evaluating.{run_more, has_inputs, turn_at, computes_each, needed_task, sink_value, notes_more, calls_more}
 use Rattle.serial_run.proofs.serial.evaluate.Goals as goal
 
@@ -70,7 +70,7 @@ loop-turn-preserved g c =
 pub number_of-requires-after_bounds : goal.number_of-requires-after_bounds
 number_of-requires-after_bounds g c = λ κs lives.
     let graph = g.G.TaskGraph.graph c.args.graph.now in
-    subst (IsTask graph) (sym c.sink.ensures) (there graph.keys graph.sink ((g.met.G.TaskGraph g.world.𝓛 g.world.𝓜 g.world.𝓡 ((λ s x. x), (λ x. x), (λ x. x), λ x. x)).lawful c.args.graph.now).sink)
+    subst (IsTask graph) (sym c.sink.ensures) (is_member graph.keys graph.sink ((g.met.G.TaskGraph g.world.𝓛 g.world.𝓜 g.world.𝓡 ((λ s x. x), (λ x. x), (λ x. x), λ x. x)).lawful c.args.graph.now).sink)
 
 pub index-requires : goal.index-requires
 index-requires g c =
@@ -99,4 +99,4 @@ returns-clause-computed g c =
     let are : AreTurns graph c.args.needed.now items = subst (AreTurns graph c.args.needed.now) (sym c.as_slice-turn-items.ensures.value) c.in_ok-turns.ensures in
     let lawful = (g.met.G.TaskGraph g.world.𝓛 g.world.𝓜 g.world.𝓡 ((λ s x. x), (λ x. x), (λ x. x), λ x. x)).lawful c.args.graph.now in
     computes_each graph (g.K.Kernel.outcome c.args.kernel.now) c.args.needed.now items c.loop-turn.turn-index c.loop-turn.values.items c.loop-turn.records.items lawful c.requires.flags are
-    (needed_task graph lawful (there graph.keys graph.sink lawful.sink)) c.loop-turn-test.false c.loop-turn.invariant.run
+    (needed_task graph lawful (is_member graph.keys graph.sink lawful.sink)) c.loop-turn-test.false c.loop-turn.invariant.run

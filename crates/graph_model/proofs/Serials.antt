@@ -2,7 +2,7 @@
 use Rattle.std.proofs.Common.{◌≡◌, ℕ, zero, suc, ◌<◌, List, [], ◌∷◌, map, take, slice_get, Some, refl, ap, arith}
 use Rattle.graph_model.specs.Graph.{Graph, IsTask, IsPred, IsLawful}
 use Rattle.graph_model.specs.Serial.{Outcome, inputs_of, value_within, serial}
-use Rattle.serial_run.proofs.Gathering.{pred_there}
+use Rattle.graph_model.proofs.Members.{pred_there}
 
 -- two functions that agree at the elements of a list
 map_same : {X Y : Type 0} (f g : X → Y) (xs : List X) → ((j : ℕ) (x : X) → slice_get xs j ≡ Some x → f x ≡ g x) → map f xs ≡ map g xs
