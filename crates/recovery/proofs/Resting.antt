@@ -95,15 +95,6 @@ renewing_is l m n is = by (nat_eq n (2 * (l - 1))) (nat_lt l (standing_life n)) 
     by false true told = absurd cc
     by false false told = cc
 
-    by : (p : Phase) → is_over p ≡ false → turn_cost p ≤ phase_rest e r.key.0 p
-    by phase.Suspect left = omega arith
-    by (phase.Renew done) left = omega arith
-    by phase.Finish left = omega arith
-    by (phase.Owe owe behind) left = owes owe.bought (ports_rest e r.key.0 behind.port)
-    by (phase.Reenter reenter) left = let a = way_some e.shape.rows reenter.way in omega (arith, a)
-    by phase.Passed left = absurd cc
-    by phase.Over left = absurd cc
-
 -- What an election that met a replacement comes to.
 module _ (e : Setting) (r : Recover) (n m : ℕ) (at : r.phase ≡ phase.Suspect) (told : Elected) (renews : told ≡ elected.Renewing m) (t : told ≡ elected_of r.life n) (replaced : IsReplacing told n) (now : Recover) (turned : Turn) (same : now ≡ record r { phase = phase.Suspect }) (goes : turned ≡ turn.Going) where
   awaited : (standing_life n < r.life) ⊎ ((standing_life n ≡ r.life) × (r.wait ≡ true)) → Rests e r now turned n
