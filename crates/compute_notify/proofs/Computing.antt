@@ -1,0 +1,10 @@
+pub mod Lines
+pub mod Load
+pub mod Needs
+pub mod Reads
+pub mod Ready
+pub mod Rooms
+pub mod Strikes
+pub mod Turns
+pub mod Values
+pub mod Writes

@@ -1,0 +1,418 @@
+use Rattle.std.proofs.Common.{◌≡◌, ℕ, false, not, ap, refl, subst, sym, ◌∙◌}
+use Rattle.recovery.specs.Recovering.{is_last, is_over as is_passed, makes_step}
+use Rattle.compute_notify.specs.Eventing.{item_calls, item_event, item_hints, item_prepared, steps_on}
+use Rattle.compute_notify.specs.Items.{Goes, ItemSpends, Stands, is_over, is_spent, item_lines}
+use Rattle.compute_notify.specs.Resting.{LetsFall, after_rest, item_rest}
+use Rattle.compute_notify.specs.Rooms.{FitsScratch, is_bare}
+use Rattle.compute_notify.specs.Stepping.{HasStepped}
+use Rattle.compute_notify.specs.Tasks.{after_items}
+use Rattle.compute_notify.specs.Working.{AfterHand, FitsTop}
+use Rattle.compute_notify.specs.declared.item.After.{After}
+use Rattle.compute_notify.specs.declared.item.Item.TheVariants as item
+use Rattle.compute_notify.proofs.BelowStrikes.{by_truth, close_row, compute_row, owe_row, prepared_knows, same_knows, stepped_knows}
+use Rattle.compute_notify.proofs.HandsFree.{after_free}
+use Rattle.compute_notify.proofs.HandsKept.{last_stops, look_hands, notify_hands, owe_hands, recover_hands, some_ports, stepped_free}
+use Rattle.compute_notify.proofs.Plain.{bare_scratch, plain_bare, plain_unspent}
+use Rattle.compute_notify.proofs.Topmost.{scratch_room}
+use Rattle.compute_notify.proofs.task.turn_item.Goals as goal
+
+pub returns-in-Credit-clause-goes : goal.returns-in-Credit-clause-goes
+returns-in-Credit-clause-goes g c = let e = g.T.Steps.setting c.args.steps.now in let v = g.T.Steps.view c.args.steps.now in let p = c.args.terms.now.plan.now in let t = g.G.TaskGraph.graph c.args.terms.now.graph.now in let h = c.args.hand.now in
+    subst (λ x. Goes t e v (g.T.Steps.view c.give_up.new.steps) (item_lines e.graph x) c.give_up.result) (sym c.in-Credit.is) c.give_up.ensures.goes
+
+pub returns-in-Credit-clause-top : goal.returns-in-Credit-clause-top
+returns-in-Credit-clause-top g c = let e = g.T.Steps.setting c.args.steps.now in let v = g.T.Steps.view c.args.steps.now in let p = c.args.terms.now.plan.now in let t = g.G.TaskGraph.graph c.args.terms.now.graph.now in let h = c.args.hand.now in
+    stepped_free g.T.KeyWords.spare c.give_up.ensures.step (λ m. refl) h (subst (FitsTop e v h) c.in-Credit.is c.requires.top) c.give_up.result
+
+pub returns-in-Credit-clause-scratch : goal.returns-in-Credit-clause-scratch
+returns-in-Credit-clause-scratch g c = let e = g.T.Steps.setting c.args.steps.now in let v = g.T.Steps.view c.args.steps.now in let p = c.args.terms.now.plan.now in let t = g.G.TaskGraph.graph c.args.terms.now.graph.now in let h = c.args.hand.now in
+    bare_scratch e t c.args.scratch.now (scratch_room e t c.args.scratch.now c.args.item c.requires.scratch) c.give_up.result (ap is_bare c.give_up.ensures.gone)
+
+pub returns-in-Credit-clause-hints : goal.returns-in-Credit-clause-hints
+returns-in-Credit-clause-hints g c = ap (λ x. item_hints x c.args.hints.now) (sym c.in-Credit.is)
+
+pub returns-in-Credit-clause-calls : goal.returns-in-Credit-clause-calls
+returns-in-Credit-clause-calls g c = ap (λ x. item_calls (g.T.Steps.setting c.args.steps.now).graph x (g.Ke.Kernel.calls c.args.kernel.now)) (sym c.in-Credit.is)
+
+pub returns-in-Credit-clause-spent : goal.returns-in-Credit-clause-spent
+returns-in-Credit-clause-spent g c = ap (λ (a : After). is_spent a.came) c.give_up.ensures.gone ∙ ap (λ x. not (steps_on x)) (sym c.in-Credit.is)
+
+pub returns-in-Credit-clause-cause : goal.returns-in-Credit-clause-cause
+returns-in-Credit-clause-cause g c = subst (λ x. ItemSpends (g.T.Steps.setting c.args.steps.now) x c.give_up.result.came) (sym c.in-Credit.is) (ap (λ (a : After). is_spent a.came) c.give_up.ensures.gone)
+
+pub returns-in-Credit-clause-still : goal.returns-in-Credit-clause-still
+returns-in-Credit-clause-still g c off = absurd (let a = sym (ap steps_on c.in-Credit.is) ∙ off in cc)
+
+pub returns-in-Credit-clause-step : goal.returns-in-Credit-clause-step
+returns-in-Credit-clause-step g c on = let e = g.T.Steps.setting c.args.steps.now in let v = g.T.Steps.view c.args.steps.now in let p = c.args.terms.now.plan.now in let t = g.G.TaskGraph.graph c.args.terms.now.graph.now in let h = c.args.hand.now in
+    subst (λ x. HasStepped g.T.Steps.setting g.T.Steps.view g.T.KeyWords.made g.T.KeyWords.spare g.T.KeyWords.last g.T.Steps.shown g.T.Steps.happened g.T.Steps.lender g.T.Steps.others (item_prepared e.graph x) (item_event e v p h h x) c.args.steps.now c.give_up.new.steps) (sym c.in-Credit.is) c.give_up.ensures.step
+
+pub returns-in-Credit-clause-rest : goal.returns-in-Credit-clause-rest
+returns-in-Credit-clause-rest g c on = let e = g.T.Steps.setting c.args.steps.now in let v = g.T.Steps.view c.args.steps.now in let p = c.args.terms.now.plan.now in let t = g.G.TaskGraph.graph c.args.terms.now.graph.now in let h = c.args.hand.now in
+    let n : ℕ = (g.T.Steps.shown c.give_up.new.steps).1 in
+    subst (λ x. LetsFall e p (item_event e v p h h x) n (item_rest e p h x) (after_rest e p h c.give_up.result)) (sym c.in-Credit.is)
+    (subst (λ i. LetsFall e p (item_event e v p h h item.Credit) n (item_rest e p i item.Credit) (after_rest e p i c.give_up.result)) (sym (subst (FitsTop e v h) c.in-Credit.is c.requires.top).1) c.give_up.ensures.rest)
+
+pub returns-in-Credit-clause-ends : goal.returns-in-Credit-clause-ends
+returns-in-Credit-clause-ends g c credit = ap after_items c.give_up.ensures.gone
+
+pub returns-in-Credit-clause-knows : goal.returns-in-Credit-clause-knows
+returns-in-Credit-clause-knows g c = stepped_knows g.T.KeyWords.spare c.give_up.ensures.step refl (same_knows (g.T.Steps.view c.args.steps.now))
+
+pub give_up-requires-clause-stands : goal.give_up-requires-clause-stands
+give_up-requires-clause-stands g c κs within = let e = g.T.Steps.setting c.args.steps.now in let v = g.T.Steps.view c.args.steps.now in let p = c.args.terms.now.plan.now in let t = g.G.TaskGraph.graph c.args.terms.now.graph.now in let h = c.args.hand.now in
+    subst (Stands t e v) c.in-Credit.is c.requires.stands
+
+pub returns-in-Explore-clause-goes : goal.returns-in-Explore-clause-goes
+returns-in-Explore-clause-goes g c = let e = g.T.Steps.setting c.args.steps.now in let v = g.T.Steps.view c.args.steps.now in let p = c.args.terms.now.plan.now in let t = g.G.TaskGraph.graph c.args.terms.now.graph.now in let h = c.args.hand.now in
+    subst (λ x. Goes t e v (g.T.Steps.view c.turn.new.steps) (item_lines e.graph x) c.turn.result) (sym c.in-Explore.is) c.turn.ensures.goes
+
+pub returns-in-Explore-clause-top : goal.returns-in-Explore-clause-top
+returns-in-Explore-clause-top g c = c.turn.ensures.top
+
+pub returns-in-Explore-clause-scratch : goal.returns-in-Explore-clause-scratch
+returns-in-Explore-clause-scratch g c = let e = g.T.Steps.setting c.args.steps.now in let v = g.T.Steps.view c.args.steps.now in let p = c.args.terms.now.plan.now in let t = g.G.TaskGraph.graph c.args.terms.now.graph.now in let h = c.args.hand.now in
+    bare_scratch e t c.args.scratch.now (scratch_room e t c.args.scratch.now c.args.item c.requires.scratch) c.turn.result (plain_bare c.turn.result c.turn.ensures.plain)
+
+pub returns-in-Explore-clause-hints : goal.returns-in-Explore-clause-hints
+returns-in-Explore-clause-hints g c = ap (λ x. item_hints x c.args.hints.now) (sym c.in-Explore.is)
+
+pub returns-in-Explore-clause-calls : goal.returns-in-Explore-clause-calls
+returns-in-Explore-clause-calls g c = ap (λ x. item_calls (g.T.Steps.setting c.args.steps.now).graph x (g.Ke.Kernel.calls c.args.kernel.now)) (sym c.in-Explore.is)
+
+pub returns-in-Explore-clause-spent : goal.returns-in-Explore-clause-spent
+returns-in-Explore-clause-spent g c = plain_unspent c.turn.result c.turn.ensures.plain ∙ ap (λ x. not (steps_on x)) (sym c.in-Explore.is)
+
+pub returns-in-Explore-clause-cause : goal.returns-in-Explore-clause-cause
+returns-in-Explore-clause-cause g c = subst (λ x. ItemSpends (g.T.Steps.setting c.args.steps.now) x c.turn.result.came) (sym c.in-Explore.is) (plain_unspent c.turn.result c.turn.ensures.plain)
+
+pub returns-in-Explore-clause-still : goal.returns-in-Explore-clause-still
+returns-in-Explore-clause-still g c off = absurd (let a = sym (ap steps_on c.in-Explore.is) ∙ off in cc)
+
+pub returns-in-Explore-clause-step : goal.returns-in-Explore-clause-step
+returns-in-Explore-clause-step g c on = let e = g.T.Steps.setting c.args.steps.now in let v = g.T.Steps.view c.args.steps.now in let p = c.args.terms.now.plan.now in let t = g.G.TaskGraph.graph c.args.terms.now.graph.now in let h = c.args.hand.now in
+    subst (λ x. HasStepped g.T.Steps.setting g.T.Steps.view g.T.KeyWords.made g.T.KeyWords.spare g.T.KeyWords.last g.T.Steps.shown g.T.Steps.happened g.T.Steps.lender g.T.Steps.others (item_prepared e.graph x) (item_event e v p h c.turn.new.hand x) c.args.steps.now c.turn.new.steps) (sym c.in-Explore.is) c.turn.ensures.step
+
+pub returns-in-Explore-clause-rest : goal.returns-in-Explore-clause-rest
+returns-in-Explore-clause-rest g c on = let e = g.T.Steps.setting c.args.steps.now in let v = g.T.Steps.view c.args.steps.now in let p = c.args.terms.now.plan.now in let t = g.G.TaskGraph.graph c.args.terms.now.graph.now in let h = c.args.hand.now in
+    let n : ℕ = (g.T.Steps.shown c.turn.new.steps).1 in
+    subst (λ x. LetsFall e p (item_event e v p h c.turn.new.hand x) n (item_rest e p h x) (after_rest e p c.turn.new.hand c.turn.result)) (sym c.in-Explore.is)
+    c.turn.ensures.rest
+
+pub returns-in-Explore-clause-ends : goal.returns-in-Explore-clause-ends
+returns-in-Explore-clause-ends g c credit = absurd (let a = sym c.in-Explore.is ∙ credit in cc)
+
+pub returns-in-Explore-clause-knows : goal.returns-in-Explore-clause-knows
+returns-in-Explore-clause-knows g c = c.turn.ensures.knows
+
+pub turn-requires-clause-stands : goal.turn-requires-clause-stands
+turn-requires-clause-stands g c κs within = let e = g.T.Steps.setting c.args.steps.now in let v = g.T.Steps.view c.args.steps.now in let p = c.args.terms.now.plan.now in let t = g.G.TaskGraph.graph c.args.terms.now.graph.now in let h = c.args.hand.now in
+    subst (Stands t e v) c.in-Explore.is c.requires.stands
+
+pub turn-requires-clause-top : goal.turn-requires-clause-top
+turn-requires-clause-top g c κs within = let e = g.T.Steps.setting c.args.steps.now in let v = g.T.Steps.view c.args.steps.now in let p = c.args.terms.now.plan.now in let t = g.G.TaskGraph.graph c.args.terms.now.graph.now in let h = c.args.hand.now in
+    subst (FitsTop e v h) c.in-Explore.is c.requires.top
+
+pub returns-in-Compute-clause-goes : goal.returns-in-Compute-clause-goes
+returns-in-Compute-clause-goes g c = let e = g.T.Steps.setting c.args.steps.now in let v = g.T.Steps.view c.args.steps.now in let p = c.args.terms.now.plan.now in let t = g.G.TaskGraph.graph c.args.terms.now.graph.now in let h = c.args.hand.now in
+    subst (λ x. Goes t e v (g.T.Steps.view c.turn-in-Compute.new.steps) (item_lines e.graph x) c.turn-in-Compute.result) (sym c.in-Compute.is) c.turn-in-Compute.ensures.goes
+
+pub returns-in-Compute-clause-top : goal.returns-in-Compute-clause-top
+returns-in-Compute-clause-top g c = c.turn-in-Compute.ensures.top
+
+pub returns-in-Compute-clause-scratch : goal.returns-in-Compute-clause-scratch
+returns-in-Compute-clause-scratch g c = c.turn-in-Compute.ensures.scratch
+
+pub returns-in-Compute-clause-hints : goal.returns-in-Compute-clause-hints
+returns-in-Compute-clause-hints g c = ap (λ x. item_hints x c.args.hints.now) (sym c.in-Compute.is)
+
+pub returns-in-Compute-clause-calls : goal.returns-in-Compute-clause-calls
+returns-in-Compute-clause-calls g c = c.turn-in-Compute.ensures.calls ∙ ap (λ x. item_calls (g.T.Steps.setting c.args.steps.now).graph x (g.Ke.Kernel.calls c.args.kernel.now)) (sym c.in-Compute.is)
+
+pub returns-in-Compute-clause-spent : goal.returns-in-Compute-clause-spent
+returns-in-Compute-clause-spent g c = c.turn-in-Compute.ensures.spent ∙ ap (λ x. not (steps_on x)) (sym c.in-Compute.is)
+
+pub returns-in-Compute-clause-cause : goal.returns-in-Compute-clause-cause
+returns-in-Compute-clause-cause g c = subst (λ x. ItemSpends (g.T.Steps.setting c.args.steps.now) x c.turn-in-Compute.result.came) (sym c.in-Compute.is) (c.turn-in-Compute.ensures.spent)
+
+pub returns-in-Compute-clause-still : goal.returns-in-Compute-clause-still
+returns-in-Compute-clause-still g c off = absurd (let a = sym (ap steps_on c.in-Compute.is) ∙ off in cc)
+
+pub returns-in-Compute-clause-step : goal.returns-in-Compute-clause-step
+returns-in-Compute-clause-step g c on = let e = g.T.Steps.setting c.args.steps.now in let v = g.T.Steps.view c.args.steps.now in let p = c.args.terms.now.plan.now in let t = g.G.TaskGraph.graph c.args.terms.now.graph.now in let h = c.args.hand.now in
+    subst (λ x. HasStepped g.T.Steps.setting g.T.Steps.view g.T.KeyWords.made g.T.KeyWords.spare g.T.KeyWords.last g.T.Steps.shown g.T.Steps.happened g.T.Steps.lender g.T.Steps.others (item_prepared e.graph x) (item_event e v p h c.turn-in-Compute.new.hand x) c.args.steps.now c.turn-in-Compute.new.steps) (sym c.in-Compute.is) c.turn-in-Compute.ensures.step
+
+pub returns-in-Compute-clause-rest : goal.returns-in-Compute-clause-rest
+returns-in-Compute-clause-rest g c on = let e = g.T.Steps.setting c.args.steps.now in let v = g.T.Steps.view c.args.steps.now in let p = c.args.terms.now.plan.now in let t = g.G.TaskGraph.graph c.args.terms.now.graph.now in let h = c.args.hand.now in
+    let n : ℕ = (g.T.Steps.shown c.turn-in-Compute.new.steps).1 in
+    subst (λ x. LetsFall e p (item_event e v p h c.turn-in-Compute.new.hand x) n (item_rest e p h x) (after_rest e p c.turn-in-Compute.new.hand c.turn-in-Compute.result)) (sym c.in-Compute.is)
+    c.turn-in-Compute.ensures.rest
+
+pub returns-in-Compute-clause-ends : goal.returns-in-Compute-clause-ends
+returns-in-Compute-clause-ends g c credit = absurd (let a = sym c.in-Compute.is ∙ credit in cc)
+
+pub returns-in-Compute-clause-knows : goal.returns-in-Compute-clause-knows
+returns-in-Compute-clause-knows g c = let e = g.T.Steps.setting c.args.steps.now in let v = g.T.Steps.view c.args.steps.now in let p = c.args.terms.now.plan.now in let t = g.G.TaskGraph.graph c.args.terms.now.graph.now in let h = c.args.hand.now in
+    stepped_knows g.T.KeyWords.spare c.turn-in-Compute.ensures.step (compute_row e v p h c.turn-in-Compute.new.hand c.in-Compute.compute) (prepared_knows e.graph c.in-Compute.compute v)
+
+pub turn-requires-in-Compute-clause-stands : goal.turn-requires-in-Compute-clause-stands
+turn-requires-in-Compute-clause-stands g c κs within = let e = g.T.Steps.setting c.args.steps.now in let v = g.T.Steps.view c.args.steps.now in let p = c.args.terms.now.plan.now in let t = g.G.TaskGraph.graph c.args.terms.now.graph.now in let h = c.args.hand.now in
+    subst (Stands t e v) c.in-Compute.is c.requires.stands
+
+pub turn-requires-in-Compute-clause-top : goal.turn-requires-in-Compute-clause-top
+turn-requires-in-Compute-clause-top g c κs within = let e = g.T.Steps.setting c.args.steps.now in let v = g.T.Steps.view c.args.steps.now in let p = c.args.terms.now.plan.now in let t = g.G.TaskGraph.graph c.args.terms.now.graph.now in let h = c.args.hand.now in
+    subst (FitsTop e v h) c.in-Compute.is c.requires.top
+
+pub turn-requires-in-Compute-clause-scratch : goal.turn-requires-in-Compute-clause-scratch
+turn-requires-in-Compute-clause-scratch g c κs within = let e = g.T.Steps.setting c.args.steps.now in let v = g.T.Steps.view c.args.steps.now in let p = c.args.terms.now.plan.now in let t = g.G.TaskGraph.graph c.args.terms.now.graph.now in let h = c.args.hand.now in
+    subst (FitsScratch e t c.args.scratch.now) c.in-Compute.is c.requires.scratch
+
+pub returns-in-Close-clause-goes : goal.returns-in-Close-clause-goes
+returns-in-Close-clause-goes g c = let e = g.T.Steps.setting c.args.steps.now in let v = g.T.Steps.view c.args.steps.now in let p = c.args.terms.now.plan.now in let t = g.G.TaskGraph.graph c.args.terms.now.graph.now in let h = c.args.hand.now in
+    subst (λ x. Goes t e v (g.T.Steps.view c.turn-in-Close.new.steps) (item_lines e.graph x) c.turn-in-Close.result) (sym c.in-Close.is) c.turn-in-Close.ensures.goes
+
+pub returns-in-Close-clause-top : goal.returns-in-Close-clause-top
+returns-in-Close-clause-top g c = c.turn-in-Close.ensures.top
+
+pub returns-in-Close-clause-scratch : goal.returns-in-Close-clause-scratch
+returns-in-Close-clause-scratch g c = let e = g.T.Steps.setting c.args.steps.now in let v = g.T.Steps.view c.args.steps.now in let p = c.args.terms.now.plan.now in let t = g.G.TaskGraph.graph c.args.terms.now.graph.now in let h = c.args.hand.now in
+    bare_scratch e t c.args.scratch.now (scratch_room e t c.args.scratch.now c.args.item c.requires.scratch) c.turn-in-Close.result (plain_bare c.turn-in-Close.result c.turn-in-Close.ensures.plain)
+
+pub returns-in-Close-clause-hints : goal.returns-in-Close-clause-hints
+returns-in-Close-clause-hints g c = ap (λ x. item_hints x c.args.hints.now) (sym c.in-Close.is)
+
+pub returns-in-Close-clause-calls : goal.returns-in-Close-clause-calls
+returns-in-Close-clause-calls g c = ap (λ x. item_calls (g.T.Steps.setting c.args.steps.now).graph x (g.Ke.Kernel.calls c.args.kernel.now)) (sym c.in-Close.is)
+
+pub returns-in-Close-clause-spent : goal.returns-in-Close-clause-spent
+returns-in-Close-clause-spent g c = plain_unspent c.turn-in-Close.result c.turn-in-Close.ensures.plain ∙ ap (λ x. not (steps_on x)) (sym c.in-Close.is)
+
+pub returns-in-Close-clause-cause : goal.returns-in-Close-clause-cause
+returns-in-Close-clause-cause g c = subst (λ x. ItemSpends (g.T.Steps.setting c.args.steps.now) x c.turn-in-Close.result.came) (sym c.in-Close.is) (plain_unspent c.turn-in-Close.result c.turn-in-Close.ensures.plain)
+
+pub returns-in-Close-clause-still : goal.returns-in-Close-clause-still
+returns-in-Close-clause-still g c off = absurd (let a = sym (ap steps_on c.in-Close.is) ∙ off in cc)
+
+pub returns-in-Close-clause-step : goal.returns-in-Close-clause-step
+returns-in-Close-clause-step g c on = let e = g.T.Steps.setting c.args.steps.now in let v = g.T.Steps.view c.args.steps.now in let p = c.args.terms.now.plan.now in let t = g.G.TaskGraph.graph c.args.terms.now.graph.now in let h = c.args.hand.now in
+    subst (λ x. HasStepped g.T.Steps.setting g.T.Steps.view g.T.KeyWords.made g.T.KeyWords.spare g.T.KeyWords.last g.T.Steps.shown g.T.Steps.happened g.T.Steps.lender g.T.Steps.others (item_prepared e.graph x) (item_event e v p h c.turn-in-Close.new.hand x) c.args.steps.now c.turn-in-Close.new.steps) (sym c.in-Close.is) c.turn-in-Close.ensures.step
+
+pub returns-in-Close-clause-rest : goal.returns-in-Close-clause-rest
+returns-in-Close-clause-rest g c on = let e = g.T.Steps.setting c.args.steps.now in let v = g.T.Steps.view c.args.steps.now in let p = c.args.terms.now.plan.now in let t = g.G.TaskGraph.graph c.args.terms.now.graph.now in let h = c.args.hand.now in
+    let n : ℕ = (g.T.Steps.shown c.turn-in-Close.new.steps).1 in
+    subst (λ x. LetsFall e p (item_event e v p h c.turn-in-Close.new.hand x) n (item_rest e p h x) (after_rest e p c.turn-in-Close.new.hand c.turn-in-Close.result)) (sym c.in-Close.is)
+    c.turn-in-Close.ensures.rest
+
+pub returns-in-Close-clause-ends : goal.returns-in-Close-clause-ends
+returns-in-Close-clause-ends g c credit = absurd (let a = sym c.in-Close.is ∙ credit in cc)
+
+pub returns-in-Close-clause-knows : goal.returns-in-Close-clause-knows
+returns-in-Close-clause-knows g c = let e = g.T.Steps.setting c.args.steps.now in let v = g.T.Steps.view c.args.steps.now in let p = c.args.terms.now.plan.now in let t = g.G.TaskGraph.graph c.args.terms.now.graph.now in let h = c.args.hand.now in
+    stepped_knows g.T.KeyWords.spare c.turn-in-Close.ensures.step (close_row e v p h c.turn-in-Close.new.hand c.in-Close.close) (same_knows v)
+
+pub turn-requires-in-Close-clause-stands : goal.turn-requires-in-Close-clause-stands
+turn-requires-in-Close-clause-stands g c κs within = let e = g.T.Steps.setting c.args.steps.now in let v = g.T.Steps.view c.args.steps.now in let p = c.args.terms.now.plan.now in let t = g.G.TaskGraph.graph c.args.terms.now.graph.now in let h = c.args.hand.now in
+    subst (Stands t e v) c.in-Close.is c.requires.stands
+
+pub turn-requires-in-Close-clause-top : goal.turn-requires-in-Close-clause-top
+turn-requires-in-Close-clause-top g c κs within = let e = g.T.Steps.setting c.args.steps.now in let v = g.T.Steps.view c.args.steps.now in let p = c.args.terms.now.plan.now in let t = g.G.TaskGraph.graph c.args.terms.now.graph.now in let h = c.args.hand.now in
+    subst (FitsTop e v h) c.in-Close.is c.requires.top
+
+pub turn-requires-in-Close-clause-left : goal.turn-requires-in-Close-clause-left
+turn-requires-in-Close-clause-left g c κs within = subst (λ x. is_over (g.T.Steps.setting c.args.steps.now).graph c.args.terms.now.plan.now x ≡ false) c.in-Close.is c.requires.left
+
+pub returns-in-Notify-clause-goes : goal.returns-in-Notify-clause-goes
+returns-in-Notify-clause-goes g c = let e = g.T.Steps.setting c.args.steps.now in let v = g.T.Steps.view c.args.steps.now in let p = c.args.terms.now.plan.now in let t = g.G.TaskGraph.graph c.args.terms.now.graph.now in let h = c.args.hand.now in
+    subst (λ x. Goes t e v (g.T.Steps.view c.turn-in-Notify.new.steps) (item_lines e.graph x) c.turn-in-Notify.result) (sym c.in-Notify.is) c.turn-in-Notify.ensures.goes
+
+pub returns-in-Notify-clause-top : goal.returns-in-Notify-clause-top
+returns-in-Notify-clause-top g c = let e = g.T.Steps.setting c.args.steps.now in let v = g.T.Steps.view c.args.steps.now in let p = c.args.terms.now.plan.now in let t = g.G.TaskGraph.graph c.args.terms.now.graph.now in let h = c.args.hand.now in
+    stepped_free g.T.KeyWords.spare c.turn-in-Notify.ensures.step (notify_hands e v c.in-Notify.notify c.in-Notify.notify.way) h (subst (FitsTop e v h) c.in-Notify.is c.requires.top) c.turn-in-Notify.result
+
+pub returns-in-Notify-clause-scratch : goal.returns-in-Notify-clause-scratch
+returns-in-Notify-clause-scratch g c = let e = g.T.Steps.setting c.args.steps.now in let v = g.T.Steps.view c.args.steps.now in let p = c.args.terms.now.plan.now in let t = g.G.TaskGraph.graph c.args.terms.now.graph.now in let h = c.args.hand.now in
+    bare_scratch e t c.args.scratch.now (scratch_room e t c.args.scratch.now c.args.item c.requires.scratch) c.turn-in-Notify.result (plain_bare c.turn-in-Notify.result c.turn-in-Notify.ensures.plain)
+
+pub returns-in-Notify-clause-hints : goal.returns-in-Notify-clause-hints
+returns-in-Notify-clause-hints g c = ap (λ x. item_hints x c.args.hints.now) (sym c.in-Notify.is)
+
+pub returns-in-Notify-clause-calls : goal.returns-in-Notify-clause-calls
+returns-in-Notify-clause-calls g c = ap (λ x. item_calls (g.T.Steps.setting c.args.steps.now).graph x (g.Ke.Kernel.calls c.args.kernel.now)) (sym c.in-Notify.is)
+
+pub returns-in-Notify-clause-spent : goal.returns-in-Notify-clause-spent
+returns-in-Notify-clause-spent g c = plain_unspent c.turn-in-Notify.result c.turn-in-Notify.ensures.plain ∙ ap (λ x. not (steps_on x)) (sym c.in-Notify.is)
+
+pub returns-in-Notify-clause-cause : goal.returns-in-Notify-clause-cause
+returns-in-Notify-clause-cause g c = subst (λ x. ItemSpends (g.T.Steps.setting c.args.steps.now) x c.turn-in-Notify.result.came) (sym c.in-Notify.is) (plain_unspent c.turn-in-Notify.result c.turn-in-Notify.ensures.plain)
+
+pub returns-in-Notify-clause-still : goal.returns-in-Notify-clause-still
+returns-in-Notify-clause-still g c off = absurd (let a = sym (ap steps_on c.in-Notify.is) ∙ off in cc)
+
+pub returns-in-Notify-clause-step : goal.returns-in-Notify-clause-step
+returns-in-Notify-clause-step g c on = let e = g.T.Steps.setting c.args.steps.now in let v = g.T.Steps.view c.args.steps.now in let p = c.args.terms.now.plan.now in let t = g.G.TaskGraph.graph c.args.terms.now.graph.now in let h = c.args.hand.now in
+    subst (λ x. HasStepped g.T.Steps.setting g.T.Steps.view g.T.KeyWords.made g.T.KeyWords.spare g.T.KeyWords.last g.T.Steps.shown g.T.Steps.happened g.T.Steps.lender g.T.Steps.others (item_prepared e.graph x) (item_event e v p h h x) c.args.steps.now c.turn-in-Notify.new.steps) (sym c.in-Notify.is) c.turn-in-Notify.ensures.step
+
+pub returns-in-Notify-clause-rest : goal.returns-in-Notify-clause-rest
+returns-in-Notify-clause-rest g c on = let e = g.T.Steps.setting c.args.steps.now in let v = g.T.Steps.view c.args.steps.now in let p = c.args.terms.now.plan.now in let t = g.G.TaskGraph.graph c.args.terms.now.graph.now in let h = c.args.hand.now in
+    let n : ℕ = (g.T.Steps.shown c.turn-in-Notify.new.steps).1 in
+    subst (λ x. LetsFall e p (item_event e v p h h x) n (item_rest e p h x) (after_rest e p h c.turn-in-Notify.result)) (sym c.in-Notify.is)
+    (subst (λ i. LetsFall e p (item_event e v p h h (item.Notify c.in-Notify.notify)) n (item_rest e p i (item.Notify c.in-Notify.notify)) (after_rest e p i c.turn-in-Notify.result)) (sym (subst (FitsTop e v h) c.in-Notify.is c.requires.top).1) c.turn-in-Notify.ensures.rest)
+
+pub returns-in-Notify-clause-ends : goal.returns-in-Notify-clause-ends
+returns-in-Notify-clause-ends g c credit = absurd (let a = sym c.in-Notify.is ∙ credit in cc)
+
+pub returns-in-Notify-clause-knows : goal.returns-in-Notify-clause-knows
+returns-in-Notify-clause-knows g c = c.turn-in-Notify.ensures.knows
+
+pub turn-requires-in-Notify-clause-stands : goal.turn-requires-in-Notify-clause-stands
+turn-requires-in-Notify-clause-stands g c κs within = let e = g.T.Steps.setting c.args.steps.now in let v = g.T.Steps.view c.args.steps.now in let p = c.args.terms.now.plan.now in let t = g.G.TaskGraph.graph c.args.terms.now.graph.now in let h = c.args.hand.now in
+    subst (Stands t e v) c.in-Notify.is c.requires.stands
+
+pub turn-requires-in-Notify-clause-left : goal.turn-requires-in-Notify-clause-left
+turn-requires-in-Notify-clause-left g c κs within = some_ports c.in-Notify.notify.ports (subst (λ x. is_over (g.T.Steps.setting c.args.steps.now).graph c.args.terms.now.plan.now x ≡ false) c.in-Notify.is c.requires.left)
+
+pub returns-in-Look-clause-goes : goal.returns-in-Look-clause-goes
+returns-in-Look-clause-goes g c = let e = g.T.Steps.setting c.args.steps.now in let v = g.T.Steps.view c.args.steps.now in let p = c.args.terms.now.plan.now in let t = g.G.TaskGraph.graph c.args.terms.now.graph.now in let h = c.args.hand.now in
+    subst (λ x. Goes t e v (g.T.Steps.view c.turn-in-Look.new.steps) (item_lines e.graph x) c.turn-in-Look.result) (sym c.in-Look.is) c.turn-in-Look.ensures.goes
+
+pub returns-in-Look-clause-top : goal.returns-in-Look-clause-top
+returns-in-Look-clause-top g c = let e = g.T.Steps.setting c.args.steps.now in let v = g.T.Steps.view c.args.steps.now in let p = c.args.terms.now.plan.now in let t = g.G.TaskGraph.graph c.args.terms.now.graph.now in let h = c.args.hand.now in
+    stepped_free g.T.KeyWords.spare c.turn-in-Look.ensures.step (look_hands e v c.in-Look.look c.in-Look.look.way) h (subst (FitsTop e v h) c.in-Look.is c.requires.top) c.turn-in-Look.result
+
+pub returns-in-Look-clause-scratch : goal.returns-in-Look-clause-scratch
+returns-in-Look-clause-scratch g c = let e = g.T.Steps.setting c.args.steps.now in let v = g.T.Steps.view c.args.steps.now in let p = c.args.terms.now.plan.now in let t = g.G.TaskGraph.graph c.args.terms.now.graph.now in let h = c.args.hand.now in
+    bare_scratch e t c.args.scratch.now (scratch_room e t c.args.scratch.now c.args.item c.requires.scratch) c.turn-in-Look.result (plain_bare c.turn-in-Look.result c.turn-in-Look.ensures.plain)
+
+pub returns-in-Look-clause-hints : goal.returns-in-Look-clause-hints
+returns-in-Look-clause-hints g c = ap (λ x. item_hints x c.args.hints.now) (sym c.in-Look.is)
+
+pub returns-in-Look-clause-calls : goal.returns-in-Look-clause-calls
+returns-in-Look-clause-calls g c = ap (λ x. item_calls (g.T.Steps.setting c.args.steps.now).graph x (g.Ke.Kernel.calls c.args.kernel.now)) (sym c.in-Look.is)
+
+pub returns-in-Look-clause-spent : goal.returns-in-Look-clause-spent
+returns-in-Look-clause-spent g c = plain_unspent c.turn-in-Look.result c.turn-in-Look.ensures.plain ∙ ap (λ x. not (steps_on x)) (sym c.in-Look.is)
+
+pub returns-in-Look-clause-cause : goal.returns-in-Look-clause-cause
+returns-in-Look-clause-cause g c = subst (λ x. ItemSpends (g.T.Steps.setting c.args.steps.now) x c.turn-in-Look.result.came) (sym c.in-Look.is) (plain_unspent c.turn-in-Look.result c.turn-in-Look.ensures.plain)
+
+pub returns-in-Look-clause-still : goal.returns-in-Look-clause-still
+returns-in-Look-clause-still g c off = absurd (let a = sym (ap steps_on c.in-Look.is) ∙ off in cc)
+
+pub returns-in-Look-clause-step : goal.returns-in-Look-clause-step
+returns-in-Look-clause-step g c on = let e = g.T.Steps.setting c.args.steps.now in let v = g.T.Steps.view c.args.steps.now in let p = c.args.terms.now.plan.now in let t = g.G.TaskGraph.graph c.args.terms.now.graph.now in let h = c.args.hand.now in
+    subst (λ x. HasStepped g.T.Steps.setting g.T.Steps.view g.T.KeyWords.made g.T.KeyWords.spare g.T.KeyWords.last g.T.Steps.shown g.T.Steps.happened g.T.Steps.lender g.T.Steps.others (item_prepared e.graph x) (item_event e v p h h x) c.args.steps.now c.turn-in-Look.new.steps) (sym c.in-Look.is) c.turn-in-Look.ensures.step
+
+pub returns-in-Look-clause-rest : goal.returns-in-Look-clause-rest
+returns-in-Look-clause-rest g c on = let e = g.T.Steps.setting c.args.steps.now in let v = g.T.Steps.view c.args.steps.now in let p = c.args.terms.now.plan.now in let t = g.G.TaskGraph.graph c.args.terms.now.graph.now in let h = c.args.hand.now in
+    let n : ℕ = (g.T.Steps.shown c.turn-in-Look.new.steps).1 in
+    subst (λ x. LetsFall e p (item_event e v p h h x) n (item_rest e p h x) (after_rest e p h c.turn-in-Look.result)) (sym c.in-Look.is)
+    (subst (λ i. LetsFall e p (item_event e v p h h (item.Look c.in-Look.look)) n (item_rest e p i (item.Look c.in-Look.look)) (after_rest e p i c.turn-in-Look.result)) (sym (subst (FitsTop e v h) c.in-Look.is c.requires.top).1) c.turn-in-Look.ensures.rest)
+
+pub returns-in-Look-clause-ends : goal.returns-in-Look-clause-ends
+returns-in-Look-clause-ends g c credit = absurd (let a = sym c.in-Look.is ∙ credit in cc)
+
+pub returns-in-Look-clause-knows : goal.returns-in-Look-clause-knows
+returns-in-Look-clause-knows g c = c.turn-in-Look.ensures.knows
+
+pub turn-requires-in-Look-clause-stands : goal.turn-requires-in-Look-clause-stands
+turn-requires-in-Look-clause-stands g c κs within = let e = g.T.Steps.setting c.args.steps.now in let v = g.T.Steps.view c.args.steps.now in let p = c.args.terms.now.plan.now in let t = g.G.TaskGraph.graph c.args.terms.now.graph.now in let h = c.args.hand.now in
+    subst (Stands t e v) c.in-Look.is c.requires.stands
+
+pub returns-in-Owe-clause-goes : goal.returns-in-Owe-clause-goes
+returns-in-Owe-clause-goes g c = let e = g.T.Steps.setting c.args.steps.now in let v = g.T.Steps.view c.args.steps.now in let p = c.args.terms.now.plan.now in let t = g.G.TaskGraph.graph c.args.terms.now.graph.now in let h = c.args.hand.now in
+    subst (λ x. Goes t e v (g.T.Steps.view c.pay.new.steps) (item_lines e.graph x) c.pay.result) (sym c.in-Owe.is) c.pay.ensures.goes
+
+pub returns-in-Owe-clause-top : goal.returns-in-Owe-clause-top
+returns-in-Owe-clause-top g c = let e = g.T.Steps.setting c.args.steps.now in let v = g.T.Steps.view c.args.steps.now in let p = c.args.terms.now.plan.now in let t = g.G.TaskGraph.graph c.args.terms.now.graph.now in let h = c.args.hand.now in
+    stepped_free g.T.KeyWords.spare c.pay.ensures.step (owe_hands e v c.in-Owe.owe) h (subst (FitsTop e v h) c.in-Owe.is c.requires.top) c.pay.result
+
+pub returns-in-Owe-clause-scratch : goal.returns-in-Owe-clause-scratch
+returns-in-Owe-clause-scratch g c = let e = g.T.Steps.setting c.args.steps.now in let v = g.T.Steps.view c.args.steps.now in let p = c.args.terms.now.plan.now in let t = g.G.TaskGraph.graph c.args.terms.now.graph.now in let h = c.args.hand.now in
+    bare_scratch e t c.args.scratch.now (scratch_room e t c.args.scratch.now c.args.item c.requires.scratch) c.pay.result (plain_bare c.pay.result c.pay.ensures.plain)
+
+pub returns-in-Owe-clause-hints : goal.returns-in-Owe-clause-hints
+returns-in-Owe-clause-hints g c = c.pay.ensures.hints ∙ ap (λ x. item_hints x c.args.hints.now) (sym c.in-Owe.is)
+
+pub returns-in-Owe-clause-calls : goal.returns-in-Owe-clause-calls
+returns-in-Owe-clause-calls g c = ap (λ x. item_calls (g.T.Steps.setting c.args.steps.now).graph x (g.Ke.Kernel.calls c.args.kernel.now)) (sym c.in-Owe.is)
+
+pub returns-in-Owe-clause-spent : goal.returns-in-Owe-clause-spent
+returns-in-Owe-clause-spent g c = plain_unspent c.pay.result c.pay.ensures.plain ∙ ap (λ x. not (steps_on x)) (sym c.in-Owe.is)
+
+pub returns-in-Owe-clause-cause : goal.returns-in-Owe-clause-cause
+returns-in-Owe-clause-cause g c = subst (λ x. ItemSpends (g.T.Steps.setting c.args.steps.now) x c.pay.result.came) (sym c.in-Owe.is) (plain_unspent c.pay.result c.pay.ensures.plain)
+
+pub returns-in-Owe-clause-still : goal.returns-in-Owe-clause-still
+returns-in-Owe-clause-still g c off = absurd (let a = sym (ap steps_on c.in-Owe.is) ∙ off in cc)
+
+pub returns-in-Owe-clause-step : goal.returns-in-Owe-clause-step
+returns-in-Owe-clause-step g c on = let e = g.T.Steps.setting c.args.steps.now in let v = g.T.Steps.view c.args.steps.now in let p = c.args.terms.now.plan.now in let t = g.G.TaskGraph.graph c.args.terms.now.graph.now in let h = c.args.hand.now in
+    subst (λ x. HasStepped g.T.Steps.setting g.T.Steps.view g.T.KeyWords.made g.T.KeyWords.spare g.T.KeyWords.last g.T.Steps.shown g.T.Steps.happened g.T.Steps.lender g.T.Steps.others (item_prepared e.graph x) (item_event e v p h h x) c.args.steps.now c.pay.new.steps) (sym c.in-Owe.is) c.pay.ensures.step
+
+pub returns-in-Owe-clause-rest : goal.returns-in-Owe-clause-rest
+returns-in-Owe-clause-rest g c on = let e = g.T.Steps.setting c.args.steps.now in let v = g.T.Steps.view c.args.steps.now in let p = c.args.terms.now.plan.now in let t = g.G.TaskGraph.graph c.args.terms.now.graph.now in let h = c.args.hand.now in
+    let n : ℕ = (g.T.Steps.shown c.pay.new.steps).1 in
+    subst (λ x. LetsFall e p (item_event e v p h h x) n (item_rest e p h x) (after_rest e p h c.pay.result)) (sym c.in-Owe.is)
+    (subst (λ i. LetsFall e p (item_event e v p h h (item.Owe c.in-Owe.owe)) n (item_rest e p i (item.Owe c.in-Owe.owe)) (after_rest e p i c.pay.result)) (sym (subst (FitsTop e v h) c.in-Owe.is c.requires.top).1) c.pay.ensures.rest)
+
+pub returns-in-Owe-clause-ends : goal.returns-in-Owe-clause-ends
+returns-in-Owe-clause-ends g c credit = absurd (let a = sym c.in-Owe.is ∙ credit in cc)
+
+pub returns-in-Owe-clause-knows : goal.returns-in-Owe-clause-knows
+returns-in-Owe-clause-knows g c = let e = g.T.Steps.setting c.args.steps.now in let v = g.T.Steps.view c.args.steps.now in let p = c.args.terms.now.plan.now in let t = g.G.TaskGraph.graph c.args.terms.now.graph.now in let h = c.args.hand.now in
+    stepped_knows g.T.KeyWords.spare c.pay.ensures.step (owe_row e v c.in-Owe.owe) (same_knows v)
+
+pub pay-requires-clause-stands : goal.pay-requires-clause-stands
+pay-requires-clause-stands g c κs within = let e = g.T.Steps.setting c.args.steps.now in let v = g.T.Steps.view c.args.steps.now in let p = c.args.terms.now.plan.now in let t = g.G.TaskGraph.graph c.args.terms.now.graph.now in let h = c.args.hand.now in
+    subst (Stands t e v) c.in-Owe.is c.requires.stands
+
+pub returns-in-Recover-clause-goes : goal.returns-in-Recover-clause-goes
+returns-in-Recover-clause-goes g c = let e = g.T.Steps.setting c.args.steps.now in let v = g.T.Steps.view c.args.steps.now in let p = c.args.terms.now.plan.now in let t = g.G.TaskGraph.graph c.args.terms.now.graph.now in let h = c.args.hand.now in
+    subst (λ x. Goes t e v (g.T.Steps.view c.replace.new.steps) (item_lines e.graph x) c.replace.result) (sym c.in-Recover.is) c.replace.ensures.goes
+
+pub returns-in-Recover-clause-top : goal.returns-in-Recover-clause-top
+returns-in-Recover-clause-top g c = let e = g.T.Steps.setting c.args.steps.now in let v = g.T.Steps.view c.args.steps.now in let p = c.args.terms.now.plan.now in let t = g.G.TaskGraph.graph c.args.terms.now.graph.now in let h = c.args.hand.now in
+    by_truth (makes_step c.in-Recover.recover) (λ makes. stepped_free g.T.KeyWords.spare (c.replace.ensures.step makes) (recover_hands e v c.in-Recover.recover) h (subst (FitsTop e v h) c.in-Recover.is c.requires.top) c.replace.result)
+    (λ stops. subst (λ s. AfterHand e (g.T.Steps.view s) h c.replace.result) (sym (c.replace.ensures.still stops)) (after_free e v (subst (FitsTop e v h) c.in-Recover.is c.requires.top).0 h c.replace.result (subst (FitsTop e v h) c.in-Recover.is c.requires.top).1))
+
+pub returns-in-Recover-clause-scratch : goal.returns-in-Recover-clause-scratch
+returns-in-Recover-clause-scratch g c = let e = g.T.Steps.setting c.args.steps.now in let v = g.T.Steps.view c.args.steps.now in let p = c.args.terms.now.plan.now in let t = g.G.TaskGraph.graph c.args.terms.now.graph.now in let h = c.args.hand.now in
+    bare_scratch e t c.args.scratch.now (scratch_room e t c.args.scratch.now c.args.item c.requires.scratch) c.replace.result c.replace.ensures.bare
+
+pub returns-in-Recover-clause-hints : goal.returns-in-Recover-clause-hints
+returns-in-Recover-clause-hints g c = c.replace.ensures.hints ∙ ap (λ x. item_hints x c.args.hints.now) (sym c.in-Recover.is)
+
+pub returns-in-Recover-clause-calls : goal.returns-in-Recover-clause-calls
+returns-in-Recover-clause-calls g c = ap (λ x. item_calls (g.T.Steps.setting c.args.steps.now).graph x (g.Ke.Kernel.calls c.args.kernel.now)) (sym c.in-Recover.is)
+
+pub returns-in-Recover-clause-spent : goal.returns-in-Recover-clause-spent
+returns-in-Recover-clause-spent g c = let r = c.in-Recover.recover in c.replace.ensures.spent ∙ last_stops (is_passed r.phase) (is_last r.phase r.life r.lives) (subst (λ x. is_over (g.T.Steps.setting c.args.steps.now).graph c.args.terms.now.plan.now x ≡ false) c.in-Recover.is c.requires.left) ∙ ap (λ x. not (steps_on x)) (sym c.in-Recover.is)
+
+pub returns-in-Recover-clause-cause : goal.returns-in-Recover-clause-cause
+returns-in-Recover-clause-cause g c = subst (λ x. ItemSpends (g.T.Steps.setting c.args.steps.now) x c.replace.result.came) (sym c.in-Recover.is) c.replace.ensures.cause
+
+pub returns-in-Recover-clause-still : goal.returns-in-Recover-clause-still
+returns-in-Recover-clause-still g c off = c.replace.ensures.still (sym (ap steps_on c.in-Recover.is) ∙ off)
+
+pub returns-in-Recover-clause-step : goal.returns-in-Recover-clause-step
+returns-in-Recover-clause-step g c on = let e = g.T.Steps.setting c.args.steps.now in let v = g.T.Steps.view c.args.steps.now in let p = c.args.terms.now.plan.now in let t = g.G.TaskGraph.graph c.args.terms.now.graph.now in let h = c.args.hand.now in
+    subst (λ x. HasStepped g.T.Steps.setting g.T.Steps.view g.T.KeyWords.made g.T.KeyWords.spare g.T.KeyWords.last g.T.Steps.shown g.T.Steps.happened g.T.Steps.lender g.T.Steps.others (item_prepared e.graph x) (item_event e v p h h x) c.args.steps.now c.replace.new.steps) (sym c.in-Recover.is) (c.replace.ensures.step (sym (ap steps_on c.in-Recover.is) ∙ on))
+
+pub returns-in-Recover-clause-rest : goal.returns-in-Recover-clause-rest
+returns-in-Recover-clause-rest g c on = let e = g.T.Steps.setting c.args.steps.now in let v = g.T.Steps.view c.args.steps.now in let p = c.args.terms.now.plan.now in let t = g.G.TaskGraph.graph c.args.terms.now.graph.now in let h = c.args.hand.now in
+    let n : ℕ = (g.T.Steps.shown c.replace.new.steps).1 in
+    subst (λ x. LetsFall e p (item_event e v p h h x) n (item_rest e p h x) (after_rest e p h c.replace.result)) (sym c.in-Recover.is)
+    (subst (λ i. LetsFall e p (item_event e v p h h (item.Recover c.in-Recover.recover)) n (item_rest e p i (item.Recover c.in-Recover.recover)) (after_rest e p i c.replace.result)) (sym (subst (FitsTop e v h) c.in-Recover.is c.requires.top).1) (c.replace.ensures.rest (sym (ap steps_on c.in-Recover.is) ∙ on)))
+
+pub returns-in-Recover-clause-ends : goal.returns-in-Recover-clause-ends
+returns-in-Recover-clause-ends g c credit = absurd (let a = sym c.in-Recover.is ∙ credit in cc)
+
+pub returns-in-Recover-clause-knows : goal.returns-in-Recover-clause-knows
+returns-in-Recover-clause-knows g c = c.replace.ensures.knows
+
+pub replace-requires-clause-stands : goal.replace-requires-clause-stands
+replace-requires-clause-stands g c κs within = let e = g.T.Steps.setting c.args.steps.now in let v = g.T.Steps.view c.args.steps.now in let p = c.args.terms.now.plan.now in let t = g.G.TaskGraph.graph c.args.terms.now.graph.now in let h = c.args.hand.now in
+    subst (Stands t e v) c.in-Recover.is c.requires.stands
+
+pub replace-requires-clause-left : goal.replace-requires-clause-left
+replace-requires-clause-left g c κs within = subst (λ x. is_over (g.T.Steps.setting c.args.steps.now).graph c.args.terms.now.plan.now x ≡ false) c.in-Recover.is c.requires.left

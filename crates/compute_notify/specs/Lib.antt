@@ -1,0 +1,9 @@
+pub mod Eventing
+pub mod Items
+pub mod Resting
+pub mod Rooms
+pub mod Running
+pub mod Stepping
+pub mod Striking
+pub mod Tasks
+pub mod Working

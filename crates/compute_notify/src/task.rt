@@ -1,0 +1,358 @@
+//! The work of one job, with all that was met on the way.
+ghost use Rattle.std.specs.Prelude.{List, None, OnOk, Some, [], false, length, not, true, vec_capacity, ◌++◌, ◌+◌, ◌≡◌, ◌≢◌, ◌≤◌};
+ghost use Rattle.compute_notify.specs.Eventing.{item_calls, item_event, item_hints, item_prepared, steps_on};
+ghost use Rattle.compute_notify.specs.Items.{Goes, ItemSpends, Stands, is_over, is_spent, item_lines, job_item};
+ghost use Rattle.compute_notify.specs.Resting.{LetsFall, after_rest, item_rest};
+ghost use Rattle.compute_notify.specs.Rooms.{AfterScratch, FitsScratch};
+ghost use Rattle.compute_notify.specs.Running.{Makes, Runs, SameKernel};
+ghost use Rattle.compute_notify.specs.Stepping.{HasStepped};
+ghost use Rattle.compute_notify.specs.Tasks.{AllMayBeOver, HasFewLeft, HasSpace, HasTurned, Holds, IsNew, IsNext, MayBeOver, NewCalls, SameTask, TaskScratch, TaskTells, after_items, came_items, ends_run, items_rest, some_count, some_list, task_items, task_rest, task_turn};
+ghost use Rattle.compute_notify.specs.Working.{AfterHand, FitsTop};
+ghost use Rattle.core_state.specs.Asked.{InEachGraphOf};
+ghost use Rattle.recovery.specs.Memory.{Remembers};
+
+use crate::item::{After, Came, Item};
+use crate::paying::{give_up, pay};
+use crate::replacing::replace;
+use crate::run::{Run, Terms};
+use crate::scratch::Scratch;
+use core_state::{BlockCells, Job};
+use core_steps::{Hints, Steps};
+use graph_model::{Kernel, Key, TaskGraph};
+use recovery::Turn;
+use std::alloc::{AllocError, Global};
+
+/// How many items a turn may add.
+const ROOM: usize = 4;
+
+/// The work of a job, with all that was met on the way. Each stack ends with its credit, and the last
+/// item is turned.
+#[derive(Debug, Drop)]
+pub struct Task {
+    // The item with which the job begins, until the first turn.
+    begins: Option<Item>,
+    items: Vec<Item>,
+    // The block that the last item took.
+    hand: Option<BlockCells>,
+}
+
+// Puts one thing behind the others, if there is one.
+fn put<X>(list: &mut Vec<X>, item: Option<X>)
+where
+    X: Drop,
+    requires { length list.old.items + some_count item ≤ vec_capacity list.old }
+    ensures items { list.new.items ≡ list.old.items ++ some_list item }
+    ensures capacity { vec_capacity list.new ≡ vec_capacity list.old }
+{
+    match item {
+        Some(item) => list.push_reserved(item),
+        None => {}
+    }
+}
+
+// Puts three things behind the others, each if it is there.
+fn put_three<X>(list: &mut Vec<X>, first: Option<X>, second: Option<X>, third: Option<X>)
+where
+    X: Drop,
+    requires { length list.old.items + some_count first + some_count second + some_count third ≤ vec_capacity list.old }
+    ensures items { list.new.items ≡ list.old.items ++ some_list first ++ some_list second ++ some_list third }
+    ensures capacity { vec_capacity list.new ≡ vec_capacity list.old }
+{
+    put(list, first);
+    put(list, second);
+    put(list, third);
+}
+
+// How many items are left of an item, with what came above it.
+fn count_of(after: &After) -> usize
+    ensures { result ≡ length (after_items after.now) }
+{
+    let left: usize = if after.left.is_some() { 1 } else { 0 };
+    let came: usize = match &after.came {
+        Came::Nothing
+        | Came::Spent {
+            key: _,
+            life: _,
+            cause: _,
+        } => 0,
+        Came::Above { item: _ } => 1,
+        Came::Stack { item: _ } => 2,
+    };
+    left + came
+}
+
+// Whether an item has nothing left to do, and gives nothing back.
+fn is_over<G: TaskGraph>(item: &Item, terms: &Terms<'_, G>) -> bool
+    requires { MayBeOver (G.graph terms.now.graph.now) item.now }
+    ensures { InEachGraphOf (G.graph terms.now.graph.now) (λ r. result ≡ is_over r terms.now.plan.now item.now) }
+{
+    match item {
+        Item::Close { close } => close.is_over(terms),
+        Item::Notify { notify } => notify.is_over(),
+        Item::Recover { recover } => recover.is_over(),
+        Item::Credit
+        | Item::Explore { explore: _ }
+        | Item::Compute { compute: _ }
+        | Item::Look { look: _ }
+        | Item::Owe { owe: _ } => false,
+    }
+}
+
+// Takes the last item that has something left to do; those behind it go.
+fn next<G: TaskGraph>(items: &mut Vec<Item>, terms: &Terms<'_, G>) -> Option<Item>
+    requires { AllMayBeOver (G.graph terms.now.graph.now) items.old.items }
+    ensures next { InEachGraphOf (G.graph terms.now.graph.now) (λ r. IsNext r terms.now.plan.now items.old.items items.new.items result) }
+    ensures capacity { vec_capacity items.new ≡ vec_capacity items.old }
+{
+    loop {
+        let item = items.pop()?;
+        if !is_over(&item, terms) {
+            return Some(item);
+        }
+    }
+}
+
+// What the turn of an item comes to for its task, of which this many items are left then.
+fn told_of(came: Came, left: usize) -> Turn
+    ensures { result ≡ task_turn came left }
+{
+    match came {
+        Came::Spent { key, life, cause } => Turn::LivesSpent { key, life, cause },
+        Came::Nothing | Came::Above { item: _ } | Came::Stack { item: _ } => {
+            if left == 0 { Turn::Done } else { Turn::Going }
+        }
+    }
+}
+
+// The turn of an item, by its kind.
+fn turn_item<T: Steps, G: TaskGraph, Ke: Kernel>(
+    item: Item,
+    steps: &mut T,
+    terms: &Terms<'_, G>,
+    hand: &mut Option<BlockCells>,
+    scratch: &mut Scratch,
+    kernel: &mut Ke,
+    hints: &mut Hints,
+) -> After
+    requires runs { Runs (G.graph terms.now.graph.now) terms.now.plan.now terms.now.lives (T.setting steps.old) }
+    requires stands { Stands (G.graph terms.now.graph.now) (T.setting steps.old) (T.view steps.old) (item) }
+    requires outcome { Makes (G.graph terms.now.graph.now) (Ke.outcome kernel.old) (Ke.fits kernel.old) (T.setting steps.old) }
+    requires left { is_over (T.setting steps.old).graph terms.now.plan.now item ≡ false }
+    requires top { FitsTop (T.setting steps.old) (T.view steps.old) hand.old item }
+    requires scratch { FitsScratch (T.setting steps.old) (G.graph terms.now.graph.now) scratch.old item }
+    requires calls { 1 ≤ Ke.spare kernel.old }
+    requires hints { length hints.old ≤ 2 }
+    requires room { 2 ≤ T.KeyWords.spare steps.old }
+    ensures goes { Goes (G.graph terms.now.graph.now) (T.setting steps.old) (T.view steps.old) (T.view steps.new) (item_lines (T.setting steps.old).graph (item)) result }
+    ensures top { AfterHand (T.setting steps.old) (T.view steps.new) hand.new result }
+    ensures scratch { AfterScratch (T.setting steps.old) (G.graph terms.now.graph.now) scratch.new result }
+    ensures hints { hints.new ≡ item_hints item hints.old }
+    ensures calls { Ke.calls kernel.new ≡ item_calls (T.setting steps.old).graph item (Ke.calls kernel.old) }
+    ensures kernel { SameKernel (Ke.outcome kernel.old) (Ke.outcome kernel.new) (Ke.fits kernel.old) (Ke.fits kernel.new) }
+    ensures kernel_room { Ke.spare kernel.old ≤ Ke.spare kernel.new + 1 }
+    ensures spent { is_spent result.came ≡ not (steps_on item) }
+    ensures cause { ItemSpends (T.setting steps.old) item result.came }
+    ensures ends { item ≡ Item.Credit → after_items result ≡ [] }
+    ensures still { steps_on item ≡ false → steps.new ≡ steps.old }
+    ensures knows { Remembers (T.view steps.old) (T.view steps.new) }
+    ensures step { steps_on item ≡ true → HasStepped T.setting T.view T.KeyWords.made T.KeyWords.spare T.KeyWords.last T.shown T.happened T.lender T.others (item_prepared (T.setting steps.old).graph item) (item_event (T.setting steps.old) (T.view steps.old) terms.now.plan.now hand.old hand.new item) steps.old steps.new }
+    ensures rest { steps_on item ≡ true → LetsFall (T.setting steps.old) terms.now.plan.now (item_event (T.setting steps.old) (T.view steps.old) terms.now.plan.now hand.old hand.new item) (T.shown steps.new).1 (item_rest (T.setting steps.old) terms.now.plan.now hand.old item) (after_rest (T.setting steps.old) terms.now.plan.now hand.new result) }
+{
+    match item {
+        Item::Credit => give_up(steps, terms),
+        Item::Explore { explore } => explore.turn(steps, terms, hand),
+        Item::Compute { compute } => compute.turn(steps, terms, hand, scratch, kernel),
+        Item::Close { close } => close.turn(steps, terms, hand),
+        Item::Notify { notify } => notify.turn(steps, terms),
+        Item::Look { look } => look.turn(steps, terms),
+        Item::Owe { owe } => pay(owe, steps, terms, hints),
+        Item::Recover { recover } => replace(recover, steps, terms, hints),
+    }
+}
+
+impl Task {
+    fn of(alloc: Global, item: Item) -> Task
+        ensures { IsNew result item }
+    {
+        Task {
+            begins: Some(item),
+            items: Vec::new(alloc),
+            hand: None,
+        }
+    }
+
+    /// The exploring of a life of a task, which is known by its row.
+    pub fn explore(alloc: Global, row: u32, key: Key, life: u32) -> Task
+        ensures new { IsNew result (job_item (record { row = row; key = key; life = life }) Job.Explore) }
+        ensures rest { HasFewLeft result key life }
+    {
+        Task::of(alloc, Item::of_job(row, key, Job::Explore, life))
+    }
+
+    /// The computing of a life of a task, which is known by its row.
+    pub fn compute(alloc: Global, row: u32, key: Key, life: u32) -> Task
+        ensures new { IsNew result (job_item (record { row = row; key = key; life = life }) Job.Compute) }
+        ensures rest { HasFewLeft result key life }
+    {
+        Task::of(alloc, Item::of_job(row, key, Job::Compute, life))
+    }
+
+    /// Makes room for what a turn adds. A refusal leaves the task as it was.
+    pub fn reserve(&mut self) -> Result<(), AllocError>
+        ensures room { OnOk result (length self.new.items.items + 4 ≤ vec_capacity self.new.items) }
+        ensures same { SameTask self.old self.new }
+    {
+        self.items.reserve(ROOM)
+    }
+
+    // Begins the job's stack with its credit.
+    fn begin(&mut self)
+        requires { HasSpace self.old }
+        ensures items { self.new.items.items ≡ task_items self.old }
+        ensures begun { self.new.begins ≡ None }
+        ensures hand { self.new.hand ≡ self.old.hand }
+        ensures room { length self.new.items.items + 2 ≤ vec_capacity self.new.items }
+    {
+        if let Some(item) = self.begins.take() {
+            put_three(&mut self.items, Some(Item::Credit), Some(item), None);
+        }
+    }
+
+    // Puts what is left of an item, and what came above it.
+    fn put_after(&mut self, after: After)
+        requires { length self.old.items.items + 3 ≤ vec_capacity self.old.items }
+        ensures items { self.new.items.items ≡ self.old.items.items ++ after_items after }
+        ensures begun { self.new.begins ≡ self.old.begins }
+        ensures hand { self.new.hand ≡ self.old.hand }
+    {
+        let left = after.left;
+        let came = after.came;
+        match left {
+            None => match came {
+                Came::Nothing
+                | Came::Spent {
+                    key: _,
+                    life: _,
+                    cause: _,
+                } => {}
+                Came::Above { item } => put_three(&mut self.items, Some(item), None, None),
+                Came::Stack { item } => {
+                    put_three(&mut self.items, Some(Item::Credit), Some(item), None)
+                }
+            },
+            Some(left) => match came {
+                Came::Nothing
+                | Came::Spent {
+                    key: _,
+                    life: _,
+                    cause: _,
+                } => { put_three(&mut self.items, Some(left), None, None) }
+                Came::Above { item } => put_three(&mut self.items, Some(left), Some(item), None),
+                Came::Stack { item } => {
+                    put_three(&mut self.items, Some(left), Some(Item::Credit), Some(item))
+                }
+            },
+        }
+    }
+
+    // Turns an item that was taken from the others, and puts what it leaves on them.
+    fn turn_next<T: Steps, G: TaskGraph, Ke: Kernel>(
+        &mut self,
+        item: Item,
+        steps: &mut T,
+        run: &mut Run<'_, G, Ke>,
+    ) -> Turn
+        requires runs { Runs (G.graph run.old.graph.now) run.old.plan.now run.old.lives (T.setting steps.old) }
+        requires stands { Stands (G.graph run.old.graph.now) (T.setting steps.old) (T.view steps.old) item }
+        requires outcome { Makes (G.graph run.old.graph.now) (Ke.outcome run.old.kernel.now) (Ke.fits run.old.kernel.now) (T.setting steps.old) }
+        requires left { is_over (T.setting steps.old).graph run.old.plan.now item ≡ false }
+        requires top { FitsTop (T.setting steps.old) (T.view steps.old) self.old.hand item }
+        requires scratch { FitsScratch (T.setting steps.old) (G.graph run.old.graph.now) run.old.scratch.now item }
+        requires begun { self.old.begins ≡ None }
+        requires space { length self.old.items.items + 3 ≤ vec_capacity self.old.items }
+        requires calls { 1 ≤ Ke.spare run.old.kernel.now }
+        requires hints { length run.old.hints.now ≤ 2 }
+        requires room { 2 ≤ T.KeyWords.spare steps.old }
+        ensures turned { HasTurned (G.graph run.old.graph.now) (T.setting steps.old) (T.view steps.old) (T.view steps.new) item self.old.items.items self.new run.new.scratch.now result }
+        ensures calls { Ke.calls run.new.kernel.now ≡ item_calls (T.setting steps.old).graph item (Ke.calls run.old.kernel.now) }
+        ensures kernel { SameKernel (Ke.outcome run.old.kernel.now) (Ke.outcome run.new.kernel.now) (Ke.fits run.old.kernel.now) (Ke.fits run.new.kernel.now) }
+        ensures kernel_room { Ke.spare run.old.kernel.now ≤ Ke.spare run.new.kernel.now + 1 }
+        ensures hints { run.new.hints.now ≡ item_hints item run.old.hints.now }
+        ensures spent { ends_run result ≡ not (steps_on item) }
+        ensures ends { item ≡ Item.Credit → self.new.items.items ≡ self.old.items.items }
+        ensures still { steps_on item ≡ false → steps.new ≡ steps.old }
+        ensures knows { Remembers (T.view steps.old) (T.view steps.new) }
+        ensures step { steps_on item ≡ true → HasStepped T.setting T.view T.KeyWords.made T.KeyWords.spare T.KeyWords.last T.shown T.happened T.lender T.others (item_prepared (T.setting steps.old).graph item) (item_event (T.setting steps.old) (T.view steps.old) run.old.plan.now self.old.hand self.new.hand item) steps.old steps.new }
+        ensures rest { steps_on item ≡ true → (left : List Item) → self.new.items.items ≡ self.old.items.items ++ left → LetsFall (T.setting steps.old) run.old.plan.now (item_event (T.setting steps.old) (T.view steps.old) run.old.plan.now self.old.hand self.new.hand item) (T.shown steps.new).1 (item_rest (T.setting steps.old) run.old.plan.now self.old.hand item) (items_rest (T.setting steps.old) run.old.plan.now self.new.hand left) }
+        ensures same_graph { run.new.graph.now ≡ run.old.graph.now }
+        ensures same_plan { run.new.plan.now ≡ run.old.plan.now }
+        ensures same_lives { run.new.lives ≡ run.old.lives }
+        ensures same_kernel { run.new.kernel.ghost_name ≡ run.old.kernel.ghost_name }
+        ensures same_scratch { run.new.scratch.ghost_name ≡ run.old.scratch.ghost_name }
+        ensures same_hints { run.new.hints.ghost_name ≡ run.old.hints.ghost_name }
+    {
+        let terms = Terms {
+            graph: run.graph,
+            plan: run.plan,
+            lives: run.lives,
+        };
+        let after = turn_item(
+            item,
+            steps,
+            &terms,
+            &mut self.hand,
+            run.scratch,
+            run.kernel,
+            run.hints,
+        );
+        let left = self.items.len() + count_of(&after);
+        let told = told_of(after.came, left);
+        self.put_after(after);
+        told
+    }
+
+    /// One step of the last item that has something left to do; no step where the life that it replaces is the
+    /// greatest. Items that are over go before.
+    pub fn turn<T: Steps, G: TaskGraph, Ke: Kernel>(
+        &mut self,
+        steps: &mut T,
+        run: &mut Run<'_, G, Ke>,
+    ) -> Turn
+        requires holds { Holds (G.graph run.old.graph.now) (T.setting steps.old) (T.view steps.old) self.old }
+        requires some { task_items self.old ≢ [] }
+        requires scratch { TaskScratch (T.setting steps.old) (G.graph run.old.graph.now) run.old.scratch.now self.old }
+        requires runs { Runs (G.graph run.old.graph.now) run.old.plan.now run.old.lives (T.setting steps.old) }
+        requires outcome { Makes (G.graph run.old.graph.now) (Ke.outcome run.old.kernel.now) (Ke.fits run.old.kernel.now) (T.setting steps.old) }
+        requires space { HasSpace self.old }
+        requires calls { 1 ≤ Ke.spare run.old.kernel.now }
+        requires hints { length run.old.hints.now ≤ 2 }
+        requires room { 2 ≤ T.KeyWords.spare steps.old }
+        ensures holds { Holds (G.graph run.old.graph.now) (T.setting steps.old) (T.view steps.new) self.new }
+        ensures tells { TaskTells (T.setting steps.old) (T.view steps.new) self.new result }
+        ensures scratch { TaskScratch (T.setting steps.old) (G.graph run.old.graph.now) run.new.scratch.now self.new }
+        ensures calls { NewCalls (Ke.calls run.old.kernel.now) (Ke.calls run.new.kernel.now) (T.view steps.old) (T.view steps.new) }
+        ensures kernel { SameKernel (Ke.outcome run.old.kernel.now) (Ke.outcome run.new.kernel.now) (Ke.fits run.old.kernel.now) (Ke.fits run.new.kernel.now) }
+        ensures kernel_room { Ke.spare run.old.kernel.now ≤ Ke.spare run.new.kernel.now + 1 }
+        ensures hints { (left : List Item) (x : Item) → IsNext (T.setting steps.old).graph run.old.plan.now (task_items self.old) left (Some x) → run.new.hints.now ≡ item_hints x run.old.hints.now }
+        ensures still { ends_run result ≡ true → steps.new ≡ steps.old }
+        ensures step { (left : List Item) (x : Item) → IsNext (T.setting steps.old).graph run.old.plan.now (task_items self.old) left (Some x) → ends_run result ≡ false → HasStepped T.setting T.view T.KeyWords.made T.KeyWords.spare T.KeyWords.last T.shown T.happened T.lender T.others (item_prepared (T.setting steps.old).graph x) (item_event (T.setting steps.old) (T.view steps.old) run.old.plan.now self.old.hand self.new.hand x) steps.old steps.new }
+        ensures rest { (left : List Item) (x : Item) → IsNext (T.setting steps.old).graph run.old.plan.now (task_items self.old) left (Some x) → ends_run result ≡ false → LetsFall (T.setting steps.old) run.old.plan.now (item_event (T.setting steps.old) (T.view steps.old) run.old.plan.now self.old.hand self.new.hand x) (T.shown steps.new).1 (task_rest (T.setting steps.old) run.old.plan.now self.old) (task_rest (T.setting steps.old) run.old.plan.now self.new) }
+        ensures same_graph { run.new.graph.now ≡ run.old.graph.now }
+        ensures same_plan { run.new.plan.now ≡ run.old.plan.now }
+        ensures same_lives { run.new.lives ≡ run.old.lives }
+        ensures same_kernel { run.new.kernel.ghost_name ≡ run.old.kernel.ghost_name }
+        ensures same_scratch { run.new.scratch.ghost_name ≡ run.old.scratch.ghost_name }
+        ensures same_hints { run.new.hints.ghost_name ≡ run.old.hints.ghost_name }
+    {
+        self.begin();
+        let terms = Terms {
+            graph: run.graph,
+            plan: run.plan,
+            lives: run.lives,
+        };
+        match next(&mut self.items, &terms) {
+            Some(item) => self.turn_next(item, steps, run),
+            None => Turn::Done,
+        }
+    }
+}
