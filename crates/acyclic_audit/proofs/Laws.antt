@@ -9,9 +9,9 @@ use Rattle.graph_model.specs.Graph.{IsLawful}
 use Rattle.raw_graph.specs.declared.raw.RawTask.{RawTask}
 use Rattle.audit_checks.specs.Tasks.{key_of, keys_of, places_of, edge_count, succ_count}
 use Rattle.audit_checks.specs.Rows.{row, cell}
-use Rattle.audit_checks.specs.Levels.{level}
+use Rattle.audit_cycles.specs.Levels.{level}
 use Rattle.audit_checks.specs.Links.{Tells, places_in, succs_in}
-use Rattle.audit_checks.specs.Chains.{below}
+use Rattle.audit_cycles.specs.Chains.{below}
 use Rattle.audit_checks.specs.ByKey.{number_in, keyed, row_by}
 use Rattle.audit_checks.proofs.KeyLaws.{number_at}
 use Rattle.audit_checks.proofs.LeastTask.{some_task, key_of_at, keys_count, uses_below}

@@ -11,9 +11,9 @@ use Rattle.graph_model.specs.declared.graph.Place.{Place}
 use Rattle.raw_graph.specs.declared.raw.RawTask.{RawTask}
 use Rattle.audit_checks.specs.Tasks.{IsAscending, key_of, keys_of, places_of, IsBefore}
 use Rattle.audit_checks.specs.Rows.{row, Names}
-use Rattle.audit_checks.specs.Levels.{level}
+use Rattle.audit_cycles.specs.Levels.{level}
 use Rattle.audit_checks.specs.Links.{Tells, places_in}
-use Rattle.audit_checks.specs.Chains.{IsChain, start, below}
+use Rattle.audit_cycles.specs.Chains.{IsChain, start, below}
 use Rattle.audit_checks.specs.ByKey.{number_in, keyed}
 use Rattle.audit_checks.proofs.Keys.{ascending-≤}
 use Rattle.audit_checks.proofs.KeyLaws.{number_at}

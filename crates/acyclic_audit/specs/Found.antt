@@ -4,9 +4,9 @@ use Rattle.raw_graph.specs.declared.raw.RawTask.{RawTask}
 use Rattle.audit_checks.specs.Tasks.{IsAscending, keys_of, places_of, edge_count}
 use Rattle.audit_checks.specs.Accepted.{IsAccepted}
 use Rattle.audit_checks.specs.Rows.{row}
-use Rattle.audit_checks.specs.Levels.{level}
+use Rattle.audit_cycles.specs.Levels.{level}
 use Rattle.audit_checks.specs.Links.{Tells, Reverse, places_in, succs_in}
-use Rattle.audit_checks.specs.Chains.{HasRank}
+use Rattle.audit_cycles.specs.Chains.{HasRank}
 use Rattle.audit_checks.specs.ByKey.{row_by, IsReverseByKey}
 use Rattle.audit_checks.specs.Ports.{AreAscending}
 use Rattle.audit_blocks.specs.Numbering.{AreNumbered}

@@ -9,11 +9,8 @@ ghost use Rattle.apsp_graph.specs.Strikes.{strike_of, within, point_of, target_o
 use crate::fault::MatrixFault;
 use crate::lines::{Lines, next_word};
 use crate::numbers::number;
-use graph_model::{FaultPlan, Key, Point, Strike, Target};
+use graph_model::{FaultPlan, Key, MOST_STRIKES, Point, Strike, Target};
 use std::alloc::Global;
-
-/// The most strikes of a plan.
-const MOST_STRIKES: usize = 4096;
 
 /// The plan that the lines tell. Empty lines are skipped.
 pub fn strikes(alloc: Global, lines: Lines, top: u64) -> Result<FaultPlan, MatrixFault>

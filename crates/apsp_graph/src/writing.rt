@@ -7,8 +7,8 @@ ghost use Rattle.apsp_graph.specs.Writing.{item_of, spaced, line_of, text_of};
 
 use crate::graph::PathGraph;
 use graph_model::Text;
-use itoa::Buffer;
 use std::alloc::{AllocError, Global};
+use text_lines::put_signed;
 
 // Stands for no walk.
 const NONE: i64 = i64::MAX;
@@ -69,6 +69,5 @@ fn push_weight(text: &mut Vec<u8>, weight: &i64) -> Result<(), AllocError>
         text.push(b'-')?;
         return Ok(());
     }
-    let mut buffer = Buffer::new();
-    text.extend_from_slice(buffer.format(*weight).as_bytes())
+    put_signed(text, *weight)
 }

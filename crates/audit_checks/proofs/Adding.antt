@@ -1,10 +1,10 @@
 -- The places of one task, one by one.
-use Rattle.std.proofs.Common.{◌≡◌, ◌∙◌, ◌≢◌, ℕ, zero, suc, ◌+◌, ◌*◌, ◌<◌, ◌≤◌, inl, inr, List, [], ◌∷◌, ◌++◌, length, get_or, set, refl, ap, sym, subst, arith, replicate, Some, None, slice_get, take, length-append}
+use Rattle.std.proofs.Common.{◌≡◌, ◌∙◌, ◌≢◌, ℕ, zero, suc, ◌+◌, ◌*◌, ◌<◌, ◌≤◌, inl, inr, List, [], ◌∷◌, ◌++◌, length, get_or, refl, ap, sym, subst, arith, replicate, Some, slice_get, take, length-append}
 use Rattle.std.proofs.lemmas.Bool.{cases_eq, cases_lt}
 use Rattle.std.proofs.lemmas.List.{length-set, get_or_at, get_or_append_left}
 use Rattle.audit_checks.specs.Tasks.{IsAscending}
 use Rattle.audit_checks.proofs.Keys.{times, same_key, times_take_yes, times_take_no}
-use Rattle.audit_checks.specs.Rows.{row, cell}
+use Rattle.audit_checks.specs.Rows.{row}
 use Rattle.audit_checks.specs.Links.{IsReverse, Tells}
 use Rattle.audit_checks.specs.Ports.{StandBefore}
 use Rattle.audit_checks.proofs.Mirror.{pushed, row_pushed, row_unpushed, reverse_pushed}

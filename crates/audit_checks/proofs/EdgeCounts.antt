@@ -1,12 +1,11 @@
 -- The ports of a task are its successor edges.
-use Rattle.std.proofs.Common.{◌≡◌, ◌∙◌, ℕ, ◌+◌, ◌<◌, ◌≤◌, true, false, cond, List, length, get_or, take, refl, ap, sym, subst, arith, Vec}
+use Rattle.std.proofs.Common.{◌≡◌, ◌∙◌, ℕ, ◌+◌, ◌<◌, ◌≤◌, true, false, List, length, get_or, take, ap, sym, subst, arith, Vec}
 use Rattle.std.specs.Prelude.{◌==◌, count_by}
 use Rattle.std.specs.declared.alloc.Global.{Global}
 use Rattle.std.proofs.lemmas.Bool.{eq-eqb, ne_eqb}
 use Rattle.std.proofs.lemmas.List.{take_all, get_or_default}
 use Rattle.std.proofs.lemmas.List.Sums.{sum_by_more}
 use Rattle.raw_graph.specs.declared.raw.RawTask.{RawTask}
-use Rattle.audit_checks.specs.Rows.{rows_of, row}
 use Rattle.audit_checks.specs.Tasks.{IsAscending, key_of, keys_of, places_of, edge_count, succ_count}
 use Rattle.audit_checks.specs.Faults.{IsLeast, HasTask, HasManyEdges}
 use Rattle.audit_checks.specs.Counted.{AreCounted}

@@ -1,11 +1,11 @@
 -- Ascending keys, and the search among them.
-use Rattle.std.proofs.Common.{◌≡◌, ◌∙◌, ℕ, zero, suc, ◌+◌, ◌<◌, ◌≤◌, ◌≢◌, ◌-◌, inl, inr, Bool, true, false, cond, List, [], ◌∷◌, length, get_or, map, refl, ap, sym, arith, Contains, sum_by, count_by, take}
+use Rattle.std.proofs.Common.{◌≡◌, ◌∙◌, ℕ, zero, suc, ◌+◌, ◌<◌, ◌≤◌, ◌≢◌, ◌-◌, inl, inr, true, false, cond, List, [], ◌∷◌, length, get_or, map, refl, ap, arith, Contains, count_by, take}
 use Rattle.std.proofs.lemmas.Bool.{eq-eqb, ne_eqb, cases_eq, cases_lt}
 use Rattle.std.proofs.lemmas.List.{get_or_default}
 use Rattle.std.proofs.lemmas.List.Sorted.{searched}
 use Rattle.std.specs.Ordering.{nat_cmp}
 use Rattle.std.specs.List.Sorted.{IsBinarySearchResult, IsNonDecreasing}
-use Rattle.std.specs.Prelude.{Ok, Err, Result, ◌==◌}
+use Rattle.std.specs.Prelude.{Ok, Err, ◌==◌}
 use Rattle.std.proofs.lemmas.List.Sums.{sum_by-cons, count_by_more_yes, count_by_more_no}
 use Rattle.audit_checks.specs.Tasks.{IsAscending}
 

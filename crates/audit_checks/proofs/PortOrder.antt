@@ -1,7 +1,7 @@
 -- Edges that are added task by task and place by place stand in ascending order at the ports.
-use Rattle.std.proofs.Common.{◌≡◌, ◌∙◌, ℕ, ◌+◌, ◌<◌, inl, inr, List, length, get_or, ap, sym, subst, arith, Some, slice_get}
+use Rattle.std.proofs.Common.{◌≡◌, ◌∙◌, ℕ, ◌+◌, ◌<◌, inl, inr, List, length, get_or, ap, sym, subst, arith}
 use Rattle.audit_checks.specs.Tasks.{IsAscending}
-use Rattle.audit_checks.specs.Rows.{row, cell}
+use Rattle.audit_checks.specs.Rows.{row}
 use Rattle.audit_checks.specs.ByKey.{number_in, row_by}
 use Rattle.audit_checks.specs.Links.{IsReverse}
 use Rattle.audit_checks.specs.Ports.{IsEarlier, AreAscending, StandBefore}

@@ -1,5 +1,5 @@
 -- Which graphs are accepted.
-use Rattle.std.specs.Prelude.{◌≡◌, ◌≢◌, ◌==◌, ℕ, ◌+◌, ◌<◌, ◌≤◌, List, length, All, Contains, count_by}
+use Rattle.std.specs.Prelude.{◌≢◌, ◌==◌, ℕ, ◌+◌, ◌<◌, ◌≤◌, List, length, All, Contains, count_by}
 use Rattle.formula_text.specs.Formulas.{tree}
 use Rattle.formula_text.specs.Trees.{HasInputs}
 use Rattle.raw_graph.specs.declared.raw.RawTask.{RawTask}

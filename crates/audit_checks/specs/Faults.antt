@@ -1,5 +1,5 @@
 -- What each refusal says. The first kind in their order that stands decides.
-use Rattle.std.specs.Prelude.{◌≡◌, ◌≢◌, ◌==◌, ◌⊎◌, ℕ, ◌+◌, ◌<◌, ◌≤◌, List, length, All, Contains, count_by, Some, slice_get, slice_index}
+use Rattle.std.specs.Prelude.{◌≡◌, ◌≢◌, ◌==◌, ℕ, ◌+◌, ◌<◌, ◌≤◌, List, length, Contains, count_by, slice_index}
 use Rattle.formula_text.specs.Formulas.{tree}
 use Rattle.formula_text.specs.Trees.{Uses}
 use Rattle.raw_graph.specs.declared.raw.RawTask.{RawTask}

@@ -1,11 +1,8 @@
 pub mod Accepted
 pub mod ByKey
-pub mod Chains
 pub mod Counted
 pub mod Faults
-pub mod Levels
 pub mod Links
 pub mod Ports
 pub mod Rows
 pub mod Tasks
-pub mod Work

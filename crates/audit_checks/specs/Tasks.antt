@@ -1,5 +1,5 @@
 -- What a list of tasks, in any order, says.
-use Rattle.std.specs.Prelude.{◌≡◌, ◌==◌, ◌&&◌, ℕ, ◌+◌, ◌<◌, List, ◌++◌, length, slice_index, map, Bool, false, Contains, count_by, sum_by, Option, Some, if◌then◌else◌}
+use Rattle.std.specs.Prelude.{◌≡◌, ◌==◌, ◌&&◌, ℕ, ◌+◌, ◌<◌, List, ◌++◌, length, slice_index, map, Bool, false, Contains, count_by, sum_by, Some, if◌then◌else◌}
 use Rattle.std.specs.Option.{option_map_or}
 use Rattle.raw_graph.specs.declared.raw.RawTask.{RawTask}
 

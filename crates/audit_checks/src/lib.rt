@@ -1,9 +1,8 @@
-//! The checks of a graph's names, sizes, inputs and order, over its tasks in ascending order of keys.
+//! The checks of a graph's names, sizes and inputs, and its edges, over its tasks in ascending order of keys.
 #![tactic(auto)]
 
 mod fault;
 mod inputs;
-mod levels;
 mod links;
 mod names;
 mod rows;
@@ -12,7 +11,6 @@ mod tasks;
 
 pub use fault::AuditFault;
 pub use inputs::check_inputs;
-pub use levels::levels_of;
 pub use links::{Links, links_of};
 pub use names::{check_keys, check_names};
 pub use rows::{empty_rows, push_at};

@@ -8,11 +8,7 @@ ghost use Rattle.audit_checks.specs.Faults.{IsFault, HasNames};
 use crate::fault::AuditFault;
 use crate::tasks::place_count;
 use graph_model::Key;
-use raw_graph::RawTask;
-
-const PLACES_LIMIT: usize = 40;
-
-const EDGES_LIMIT: usize = 640;
+use raw_graph::{MOST_EDGES, MOST_PLACES, RawTask};
 
 // Refuses a task with too many predecessors.
 pub fn check_places(tasks: &[RawTask]) -> Result<(), AuditFault>
@@ -22,7 +18,7 @@ pub fn check_places(tasks: &[RawTask]) -> Result<(), AuditFault>
 {
     for task in tasks {
         let count = place_count(task);
-        if count > PLACES_LIMIT {
+        if count > MOST_PLACES {
             return Err(AuditFault::TooManyPreds {
                 task: task.key,
                 count: count as u64,
@@ -66,7 +62,7 @@ pub fn check_edges(
 {
     for i in 0..tasks.len() {
         let count = edges_at(keys, tasks, sink, succs, i);
-        if count > EDGES_LIMIT {
+        if count > MOST_EDGES {
             return Err(AuditFault::TooManySuccs {
                 task: Key(keys[i]),
                 count: count as u64,

@@ -11,8 +11,8 @@ use Rattle.audit_checks.specs.Links.{Tells, places_in}
 use Rattle.audit_checks.specs.declared.links.Links.{Links}
 use Rattle.audit_checks.proofs.RowLemmas.{rows_long}
 use Rattle.audit_checks.specs.ByKey.{number_in}
-use Rattle.audit_checks.specs.Levels.{level}
-use Rattle.audit_checks.specs.Chains.{IsChain, below}
+use Rattle.audit_cycles.specs.Levels.{level}
+use Rattle.audit_cycles.specs.Chains.{IsChain, below}
 use Rattle.audit_checks.proofs.KeyLaws.{number_at}
 use Rattle.audit_checks.proofs.Keys.{same_key, ascending-≤}
 use Rattle.audit_checks.proofs.LeastTask.{some_task, keys_count, key_of_at, contains_at}

@@ -2,10 +2,11 @@
 use Rattle.std.proofs.Common.{◌≡◌, ◌∙◌, ◌≢◌, ℕ, zero, suc, ◌+◌, ◌<◌, ◌≤◌, inl, inr, max, List, [], ◌∷◌, length, get_or, ap, sym, subst, arith, All}
 use Rattle.std.proofs.lemmas.Bool.{cases_eq, cases_lt}
 use Rattle.audit_checks.specs.Rows.{row, Names, IsWithin}
-use Rattle.audit_checks.specs.Levels.{level, IsLevelling}
+use Rattle.audit_cycles.specs.Levels.{level, IsLevelling}
 use Rattle.audit_cycles.specs.Ancestors.{Reaches, here, up, IsOnCycle, HasNoCycleBefore}
-use Rattle.audit_cycles.specs.Hints.{NeverRises}
-use Rattle.audit_cycles.proofs.Searching.{named_within, place_of}
+use Rattle.audit_cycles.specs.Components.{NeverRises}
+use Rattle.audit_cycles.proofs.LevelLaws.{within_row}
+use Rattle.audit_cycles.proofs.Searching.{place_of}
 
 pub row_inside : (places : List (List (ℕ × ℕ))) (k p : ℕ) → Names (row places k) p → k < length places
 row_inside [] k p names = absurd names
@@ -115,7 +116,7 @@ all_levels places levels is all none_on k inside = elim (cases_eq (level levels 
       let held = is.held x low x_z in
       record {
         at = held.by;
-        low = named_within (length places) (row places x) held.by (all x [] low) held.names;
+        low = within_row places all x held.by low held.names;
         none_yet = held.none_yet;
         below = record { by = held.by; names = held.names; reaches = here };
       } in

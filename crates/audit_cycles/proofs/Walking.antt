@@ -1,4 +1,4 @@
--- The walks that find hints stay inside, and end.
+-- The walks that find components stay inside, and end.
 use Rattle.std.proofs.Common.{◌≡◌, ◌∙◌, ℕ, ◌+◌, ◌*◌, ◌-◌, ◌<◌, ◌≤◌, inl, inr, Bool, true, false, List, [], ◌∷◌, ◌++◌, length, get_or, set, ap, sym, subst, arith, Contains, All, Vec, replicate}
 use Rattle.std.specs.Prelude.{sum_by}
 use Rattle.std.specs.declared.alloc.Global.{Global}
@@ -9,7 +9,7 @@ use Rattle.std.proofs.lemmas.List.Elements.{Contains-push, Contains-append_left,
 use Rattle.audit_checks.specs.Rows.{rows_of, row, IsWithin}
 use Rattle.audit_checks.proofs.RowLemmas.{rows_long}
 use Rattle.audit_cycles.specs.Searching.{unseen, Sees}
-use Rattle.audit_cycles.specs.Hints.{AreRows, IsWalk, IsSearching}
+use Rattle.audit_cycles.specs.Components.{AreRows, IsWalk, IsSearching}
 use Rattle.audit_cycles.proofs.Searching.{named_at, named_within, unseen_set, seen_inside}
 
 within_push : (n : ℕ) (es : List (ℕ × ℕ)) (e : ℕ × ℕ) → IsWithin n es → e.0 < n → IsWithin n (es ++ e ∷ [])

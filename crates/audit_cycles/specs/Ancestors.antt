@@ -1,8 +1,10 @@
 -- What leads to a task, and the cycles. Tasks are named by their numbers.
 use Rattle.std.specs.Prelude.{◌≡◌, ℕ, ◌<◌, ◌-◌, List, Bool, true, false, length, slice_index_or}
 use Rattle.audit_checks.specs.Rows.{row, Names}
-use Rattle.audit_checks.specs.Levels.{level}
-use Rattle.audit_checks.specs.Chains.{HasRank}
+use Rattle.audit_cycles.specs.Levels.{level}
+use Rattle.audit_cycles.specs.Chains.{HasRank}
+use Rattle.audit_cycles.specs.declared.cycles.Ordered.{Ordered}
+use Rattle.audit_cycles.specs.declared.cycles.Ordered.TheVariants as ordered
 
 -- k is the task `from`, or one of its ancestors: a predecessor of what is reached is reached
 pub data Reaches (places : List (List (ℕ × ℕ))) (from : ℕ) : ℕ → Type 0 where
@@ -34,3 +36,8 @@ pub record AreLevels (places : List (List (ℕ × ℕ))) (levels : List ℕ) : T
   pub long : length levels ≡ length places
   pub some : (k : ℕ) → k < length places → 0 < level levels k
   pub ranks : (k : ℕ) → k < length places → HasRank places k (level levels k - 1)
+
+-- the levels of all tasks, or the first task on a cycle
+abbrev pub IsOrdering : List (List (ℕ × ℕ)) → Ordered → Type 0
+IsOrdering places (ordered.Levels levels) = AreLevels places levels.items
+IsOrdering places (ordered.Cycle k) = IsFirstOnCycle places k

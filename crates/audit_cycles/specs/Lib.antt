@@ -1,3 +1,6 @@
 pub mod Ancestors
-pub mod Hints
+pub mod Chains
+pub mod Components
+pub mod Levels
 pub mod Searching
+pub mod Work

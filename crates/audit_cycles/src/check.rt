@@ -5,10 +5,10 @@ ghost use Rattle.audit_checks.specs.Accepted.{IsAcyclic};
 ghost use Rattle.audit_checks.specs.Faults.{IsFault, HasSizes};
 ghost use Rattle.audit_checks.specs.Rows.{row};
 ghost use Rattle.audit_checks.specs.Links.{Tells, places_in};
-ghost use Rattle.audit_checks.specs.Levels.{level};
-ghost use Rattle.audit_checks.specs.Chains.{HasRank};
+ghost use Rattle.audit_cycles.specs.Levels.{level};
+ghost use Rattle.audit_cycles.specs.Chains.{HasRank};
 
-use crate::cycles::levels_or_cycle;
+use crate::cycles::{Ordered, levels_or_cycle};
 use audit_checks::{AuditFault, Links};
 use graph_model::Key;
 use raw_graph::RawTask;
@@ -33,8 +33,8 @@ pub fn check_cycles(
     ensures err { IfErr result (λ e. (sink : ℕ) → HasSizes tasks.now sink → IsFault tasks.now sink e) }
 {
     match levels_or_cycle(alloc, links.places.as_slice()) {
-        Ok(Ok(levels)) => Ok(levels),
-        Ok(Err(k)) => Err(AuditFault::Cycle { key: Key(keys[k]) }),
+        Ok(Ordered::Levels(levels)) => Ok(levels),
+        Ok(Ordered::Cycle(k)) => Err(AuditFault::Cycle { key: Key(keys[k]) }),
         Err(_) => Err(AuditFault::OutOfMemory),
     }
 }

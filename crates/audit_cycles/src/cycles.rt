@@ -1,13 +1,22 @@
-ghost use Rattle.std.specs.Prelude.{◌≡◌, ◌<◌, ◌≤◌, ◌^◌, ℕ, true, false, length, slice_index, All, IfOk, MatchOption, MatchResult};
+ghost use Rattle.std.specs.Prelude.{◌≡◌, ◌<◌, ◌≤◌, ◌^◌, ℕ, true, false, length, slice_index, All, IfOk, MatchOption};
 ghost use Rattle.audit_checks.specs.Rows.{rows_of, row, Names, IsWithin};
-ghost use Rattle.audit_checks.specs.Levels.{level};
-ghost use Rattle.audit_cycles.specs.Ancestors.{IsOnCycle, HasNoCycleBefore, IsFirstOnCycle, AreLevels};
-ghost use Rattle.audit_cycles.specs.Hints.{NeverRises};
+ghost use Rattle.audit_cycles.specs.Levels.{level};
+ghost use Rattle.audit_cycles.specs.Ancestors.{IsOnCycle, HasNoCycleBefore, IsFirstOnCycle, IsOrdering};
+ghost use Rattle.audit_cycles.specs.Components.{NeverRises};
 
-use crate::hints::hints;
+use crate::components::components;
+use crate::levels::levels_of;
 use crate::search::ancestors;
-use audit_checks::levels_of;
 use std::alloc::{AllocError, Global};
+
+/// What an ordering of the tasks comes to.
+#[derive(Drop)]
+pub enum Ordered {
+    /// The level of each task.
+    Levels(Vec<u32>),
+    /// The first task on a cycle.
+    Cycle(usize),
+}
 
 // The highest number of the tasks that are named, or 0.
 fn highest(numbers: &[usize], named: &[(u32, u32)]) -> usize
@@ -57,7 +66,7 @@ fn first_on_cycle(alloc: Global, places: &[Vec<(u32, u32)>]) -> Result<Option<us
     requires inside { All (IsWithin (length places.now)) (rows_of places.now) }
     ensures { IfOk result (λ found. MatchOption found (HasNoCycleBefore (rows_of places.now) (length places.now)) (IsFirstOnCycle (rows_of places.now))) }
 {
-    let numbers = hints(alloc, places)?;
+    let numbers = components(alloc, places)?;
     let helpful = never_rises(numbers.as_slice(), places);
     for k in 0..places.len() {
         if helpful && highest(numbers.as_slice(), places[k].as_slice()) < numbers[k] {
@@ -78,20 +87,17 @@ fn lacks_level(levels: &[u32]) -> bool
 }
 
 // The levels of the tasks, or else the first task on a cycle.
-pub fn levels_or_cycle(
-    alloc: Global,
-    places: &[Vec<(u32, u32)>],
-) -> Result<Result<Vec<u32>, usize>, AllocError>
+pub fn levels_or_cycle(alloc: Global, places: &[Vec<(u32, u32)>]) -> Result<Ordered, AllocError>
     requires few { length places.now < 2 ^ 32 }
     requires inside { All (IsWithin (length places.now)) (rows_of places.now) }
-    ensures { IfOk result (λ found. MatchResult found (λ levels. AreLevels (rows_of places.now) levels.items) (IsFirstOnCycle (rows_of places.now))) }
+    ensures { IfOk result (IsOrdering (rows_of places.now)) }
 {
     let levels = levels_of(alloc, places)?;
     if !lacks_level(levels.as_slice()) {
-        return Ok(Ok(levels));
+        return Ok(Ordered::Levels(levels));
     }
     match first_on_cycle(alloc, places)? {
-        Some(k) => Ok(Err(k)),
-        None => Ok(Ok(levels)),
+        Some(k) => Ok(Ordered::Cycle(k)),
+        None => Ok(Ordered::Levels(levels)),
     }
 }

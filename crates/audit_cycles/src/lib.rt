@@ -1,9 +1,10 @@
-//! What leads to a task, the levels of the tasks, and the least task on a cycle.
+//! What leads to a task, a topological order of the tasks, and the least task on a cycle.
 #![tactic(auto)]
 
 mod check;
+mod components;
 mod cycles;
-mod hints;
+mod levels;
 mod search;
 
 pub use check::check_cycles;

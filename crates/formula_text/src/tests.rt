@@ -39,7 +39,7 @@ fn repeated(alloc: Global, before: &str, times: u32, behind: &str) -> Result<Str
 }
 
 #[test]
-fn worked_rows(rt: HostRuntime) -> Result<(), Fail> {
+fn refused_texts(rt: HostRuntime) -> Result<(), Fail> {
     let alloc = rt.alloc();
     let faults = [
         ("", FormulaFault::End),
@@ -56,6 +56,12 @@ fn worked_rows(rt: HostRuntime) -> Result<(), Fail> {
     for (text, fault) in faults {
         assert_eq!(rt; fault_of(alloc, text), Some(fault));
     }
+    Ok(())
+}
+
+#[test]
+fn values_and_texts(rt: HostRuntime) -> Result<(), Fail> {
+    let alloc = rt.alloc();
     let values = [
         ("-7/2", -3, "-7/2"),
         ("-7%2", -1, "-7%2"),
@@ -75,6 +81,12 @@ fn worked_rows(rt: HostRuntime) -> Result<(), Fail> {
     for (text, value, written) in values {
         assert!(rt; is_worth(alloc, text, value, written), "{text}");
     }
+    Ok(())
+}
+
+#[test]
+fn deep_and_long_texts(rt: HostRuntime) -> Result<(), Fail> {
+    let alloc = rt.alloc();
     let nested = repeated(alloc, "(", 64, ")")?;
     assert!(rt; is_worth(alloc, nested.as_str(), 1, "1"));
     let negated = repeated(alloc, "-", 64, "")?;

@@ -1,14 +1,13 @@
 //! A formula as text.
 
 ghost use Rattle.std.specs.Prelude.{◌≡◌, ◌++◌, IfOk, OnOk};
-ghost use Rattle.std.specs.Fmt.{decimal};
 ghost use Rattle.formula_text.specs.Trees.{tree_of};
 ghost use Rattle.formula_text.specs.Writing.{line_of, line_of_op, left_of, right_of, around, text_of, wants_brackets, before, sign, behind};
 
 use crate::node::{Node, Op};
 use graph_model::Text;
-use itoa::Buffer;
 use std::alloc::{AllocError, Global};
+use text_lines::put_number;
 
 /// A line of the grammar.
 #[derive(Clone, Copy)]
@@ -121,22 +120,15 @@ fn behind(wanted: Line, op: Op) -> &'static [u8]
     }
 }
 
-fn push_number(out: &mut Vec<u8>, n: u64) -> Result<(), AllocError>
-    ensures { OnOk result (out.new.items ≡ out.old.items ++ decimal n) }
-{
-    let mut digits = Buffer::new();
-    out.extend_from_slice(digits.format(n).as_bytes())
-}
-
 // A tree where a line of the grammar is wanted.
 fn push(out: &mut Vec<u8>, node: &Node, wanted: Line) -> Result<(), AllocError>
     ensures { OnOk result (out.new.items ≡ out.old.items ++ around wanted (line_of (tree_of node.now)) (text_of (tree_of node.now))) }
 {
     match node {
-        Node::Number(n) => push_number(out, n.unsigned_abs()),
+        Node::Number(n) => put_number(out, n.unsigned_abs()),
         Node::Input(i) => {
             out.push(b'$')?;
-            push_number(out, u64::from(*i))
+            put_number(out, u64::from(*i))
         }
         Node::Minus(a) => {
             out.push(b'-')?;

@@ -13,6 +13,6 @@ pub use graph::{Edge, Kind, Place, TaskGraph};
 pub use kernel::{Inputs, Kernel};
 pub use key::Key;
 pub use lists::{Cells, Keys, Series, Text};
-pub use plan::{FaultPlan, Point, Strike, Target};
+pub use plan::{FaultPlan, MOST_STRIKES, Point, Strike, Target};
 pub use probe::{ListProbe, NoProbe, Probe};
 pub use record::{Cause, Found, Hit, Record};

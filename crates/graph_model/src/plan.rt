@@ -32,7 +32,8 @@ pub struct Strike {
     pub target: Target,
 }
 
-const MOST_STRIKES: usize = 4096;
+/// The most strikes of a plan.
+pub const MOST_STRIKES: usize = 4096;
 
 /// The faults of a run, in order.
 #[derive(Debug, Drop)]

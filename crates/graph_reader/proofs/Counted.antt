@@ -1,12 +1,14 @@
 -- Arrays within their limit, and past it.
-use Rattle.std.proofs.Common.{◌≡◌, ℕ, suc, ◌<◌, ◌≤◌, List, [], ◌∷◌, length, Some, refl, ap, arith, cond, nat_le, Option}
+use Rattle.std.proofs.Common.{◌≡◌, ℕ, suc, ◌<◌, ◌≤◌, List, [], ◌∷◌, length, Bool, Some, refl, ap, arith, cond, nat_le, Option}
 use Rattle.std.proofs.lemmas.Bool.Decides.{nat_tests}
 use Rattle.serde_json.specs.Data.{Data}
 use Rattle.serde_json.specs.Events.{items_len}
+use Rattle.serde_json.specs.Find.{as_array}
 use Rattle.serde_json.specs.View.{items_view}
 use Rattle.serde_json.specs.declared.value.Value.{Value}
 use Rattle.graph_reader.specs.Checks.{Check, each}
-use Rattle.graph_reader.specs.Format.{counted}
+use Rattle.graph_reader.specs.Faults.{range}
+use Rattle.graph_reader.specs.Format.{counted, strike_check, strikes_check}
 use Rattle.graph_reader.specs.declared.fault.TextFault.{TextFault}
 
 items_len-view : (vs : List Value) → items_len (items_view vs) ≡ length vs
@@ -24,3 +26,7 @@ counted_few most fault check vs few = rw (items_len-view vs) (within_limit (leng
 
 pub counted_many : (most : ℕ) (fault : TextFault) (check : Check Data) (vs : List Value) → most < length vs → counted most fault check (items_view vs) ≡ Some fault
 counted_many most fault check vs many = rw (items_len-view vs) (past_limit (length vs) most _ _ many)
+
+-- more strikes than a plan may have
+pub too_many_strikes : (is_task : ℕ → Bool) (d : Data) (vs : List Value) (e : TextFault) → Some (items_view vs) ≡ as_array d → 4096 < length vs → e ≡ range → strikes_check is_task d ≡ Some e
+too_many_strikes is_task d vs e here many is = rw (← here, is) (counted_many 4096 range (strike_check is_task) vs many)

@@ -5,7 +5,7 @@ use Rattle.std.specs.Fmt.{digits, padded_integral, format_spec}
 use Rattle.std.proofs.lemmas.Fmt.{hex_byte}
 use Rattle.graph_reader.specs.Shown.{shown_char}
 
-control_small : (c : ℕ) → is_control c ≡ true → c < 256
+pub control_small : (c : ℕ) → is_control c ≡ true → c < 256
 control_small c is = grind arith
 
 -- a control character is shown by its escape, with the digits that are written

@@ -6,6 +6,8 @@ pub mod Depth
 pub mod Escapes
 pub mod Fits
 pub mod Floats
+pub mod LinePaths
+pub mod Lines
 pub mod Members
 pub mod Order
 pub mod Pairs

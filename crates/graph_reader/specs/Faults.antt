@@ -1,7 +1,7 @@
 -- Faults, and how those of a part are seen from the whole.
 use Rattle.std.specs.Prelude.{◌≡◌, ◌⊎◌, ℕ, List, [], ◌∷◌, ◌++◌, Option, None, Some, Result, Ok, Err, option_map}
 use Rattle.std.specs.Option.{option_or}
-use Rattle.graph_reader.specs.Shown.{shown_name}
+use Rattle.graph_reader.specs.Shown.{shown_name, IsOneLine}
 use Rattle.graph_reader.specs.declared.fault.TextFault.{TextFault}
 use Rattle.graph_reader.specs.declared.fault.TextFault.TheVariants.{NotJson, Shape, Range, Formula, TooManyTasks, Version, OutOfMemory}
 
@@ -22,6 +22,16 @@ under part (Formula task fault) = Formula task fault
 under part TooManyTasks = TooManyTasks
 under part Version = Version
 under part OutOfMemory = OutOfMemory
+
+-- the path, where there is one, is one line of printable text
+abbrev pub HasLinePath : TextFault → Type 0
+HasLinePath (Shape path) = IsOneLine path
+HasLinePath (Range path) = IsOneLine path
+HasLinePath NotJson = Unit {0}
+HasLinePath (Formula task fault) = Unit {0}
+HasLinePath TooManyTasks = Unit {0}
+HasLinePath Version = Unit {0}
+HasLinePath OutOfMemory = Unit {0}
 
 -- what is wrong with a part, where something is
 abbrev pub within : List ℕ → Option TextFault → Option TextFault

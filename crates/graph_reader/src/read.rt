@@ -1,11 +1,11 @@
 //! The reading of a graph file.
 
-ghost use Rattle.std.specs.Prelude.{◌^◌, ◌<◌, ◌≤◌, length, codes, All, IfOk};
+ghost use Rattle.std.specs.Prelude.{◌^◌, ◌<◌, ◌≤◌, length, codes, All, IfErr, IfOk};
 ghost use Rattle.serde_json.specs.View.{view};
 ghost use Rattle.graph_reader.specs.Answers.{ReadsGraph};
 ghost use Rattle.graph_reader.specs.Checks.{needed};
 ghost use Rattle.graph_reader.specs.Content.{file_in};
-ghost use Rattle.graph_reader.specs.Faults.{Answers};
+ghost use Rattle.graph_reader.specs.Faults.{Answers, HasLinePath};
 ghost use Rattle.graph_reader.specs.Format.{version_check, file_check};
 ghost use Rattle.raw_graph.specs.Graph.{file_of, file_with};
 ghost use Rattle.raw_graph.specs.Limits.{IsWithinLimits};
@@ -59,6 +59,8 @@ fn file(alloc: Global, value: &Value) -> Result<(RawGraph, Vec<Strike>), TextFau
 pub fn read_graph(alloc: Global, bytes: &[u8]) -> Result<(RawGraph, FaultPlan), TextFault>
     // What the bytes stand for, or the first fault in the order of the checks.
     ensures answer { ReadsGraph bytes.now result }
+    // The path of a refusal is one line of printable text.
+    ensures line { IfErr result HasLinePath }
     // It can be written again.
     ensures within { IfOk result (λ r. IsWithinLimits (file_with r.0 r.1)) }
 {

@@ -1,7 +1,7 @@
 //! Names of a file, as a path shows them.
 
 ghost use Rattle.std.specs.Prelude.{◌≡◌, ◌++◌, string_bytes, IfOk, OnOk};
-ghost use Rattle.graph_reader.specs.Shown.{shown_char, shown_name};
+ghost use Rattle.graph_reader.specs.Shown.{IsOneLine, shown_char, shown_name};
 
 use std::alloc::{AllocError, Global};
 
@@ -21,7 +21,9 @@ fn put_char(alloc: Global, text: &mut String, c: char) -> Result<(), AllocError>
 
 /// A name, as a path shows it.
 pub(crate) fn shown_name(alloc: Global, name: &str) -> Result<String, AllocError>
-    ensures { IfOk result (λ text. string_bytes text ≡ shown_name name.now) }
+    ensures text { IfOk result (λ text. string_bytes text ≡ shown_name name.now) }
+    // So a message is one line, and steers no terminal.
+    ensures line { IfOk result (λ text. IsOneLine (string_bytes text)) }
 {
     let mut text = String::new(alloc);
     for c in name.chars() {

@@ -15,11 +15,9 @@ use crate::fields::{number_at, point_at, target_at, word_at};
 use crate::kinds;
 use crate::names::{Kind, check_names, check_object};
 use graph_model::{Key, Strike};
-use raw_graph::RawTask;
+use raw_graph::{MOST_KEY, MOST_LIFE, MOST_STRIKES, RawTask};
 use serde_json::Value;
 use std::alloc::Global;
-
-const MOST_STRIKES: usize = 4096;
 
 // The keys of the tasks.
 fn keys(alloc: Global, tasks: &[RawTask]) -> Result<Vec<u64>, TextFault>
@@ -54,7 +52,7 @@ fn task_key(alloc: Global, value: &Value, keys: &[u64]) -> Result<Key, TextFault
     requires { IsNonDecreasing keys.now }
     ensures { Answers (λ k. k.0) (task_key_check (is_among keys.now) (view value.now)) (number_in (view value.now)) result }
 {
-    let key = kinds::number(alloc, value, 0, kinds::MOST_KEY)?;
+    let key = kinds::number(alloc, value, 0, MOST_KEY)?;
     if is_listed(keys, key) {
         Ok(Key(key))
     } else {
@@ -80,7 +78,7 @@ fn strike(alloc: Global, value: &Value, keys: &[u64]) -> Result<Strike, TextFaul
     check_object(alloc, value)?;
     check_names(alloc, Kind::Strike, value)?;
     let key = task_at(alloc, value, keys)?;
-    let life = number_at(alloc, value, "life", 1, 65535)? as u32;
+    let life = number_at(alloc, value, "life", 1, MOST_LIFE)? as u32;
     let point = point_at(alloc, value)?;
     let named = target_at(alloc, value)?;
     let target = word_at(alloc, value, named)?;
@@ -117,6 +115,7 @@ fn each_strike(alloc: Global, values: &[Value], keys: &[u64]) -> Result<Vec<Stri
     Ok(strikes)
 }
 
+#[tactic(auto, using(crate::proofs::Counted::too_many_strikes))]
 fn strikes(alloc: Global, value: &Value, keys: &[u64]) -> Result<Vec<Strike>, TextFault>
     requires { IsNonDecreasing keys.now }
     ensures { Answers (λ v. v.items) (strikes_check (is_among keys.now) (view value.now)) (every strike_in (items_in (view value.now))) result }

@@ -11,11 +11,9 @@ ghost use Rattle.raw_graph.specs.Graph.{task_of};
 use crate::fault::{TextFault, at, at_item, missing};
 use crate::fields::{block_at, formula_at, key_at, keys_at};
 use crate::names::{Kind, check_names, check_object};
-use raw_graph::RawTask;
+use raw_graph::{MOST_TASKS, RawTask};
 use serde_json::Value;
 use std::alloc::Global;
-
-const MOST_TASKS: usize = 16384;
 
 fn task(alloc: Global, value: &Value) -> Result<RawTask, TextFault>
     ensures { Answers task_of (task_check (view value.now)) (task_in (view value.now)) result }

@@ -1,5 +1,5 @@
 -- The text of records.
-use Rattle.std.specs.Prelude.{◌≡◌, ℕ, ℤ, Bool, true, false, List, ◌++◌, codes, decimal, nat_eq, if◌then◌else◌}
+use Rattle.std.specs.Prelude.{◌≡◌, ℕ, ℤ, Bool, true, false, List, ◌++◌, codes, nat_eq, if◌then◌else◌}
 use Rattle.std.specs.Fmt.{signed_decimal}
 use Rattle.std.specs.List.{flat_map}
 use Rattle.graph_model.specs.declared.record.Record.{Record}
@@ -11,19 +11,16 @@ use Rattle.graph_model.specs.declared.record.Cause.TheVariants as cause
 use Rattle.graph_model.specs.declared.record.Found.{Found}
 use Rattle.graph_model.specs.declared.record.Found.TheVariants as found
 use Rattle.graph_model.specs.declared.key.Key.{Key}
+use Rattle.text_lines.specs.Fields.{field_text}
 use Rattle.run_records.specs.Print.{IsInPrint}
 
--- a word, and the number after it
-abbrev pub field_text : List ℕ → ℕ → List ℕ
-field_text word number = word ++ decimal number
-
--- a word, the key and its life
+-- words, the key and its life
 abbrev pub life_text : List ℕ → Key → ℕ → List ℕ
-life_text word key life = field_text word key.0 ++ field_text (codes " life ") life
+life_text words key life = field_text words key.0 ++ field_text (codes " life ") life
 
--- a word, the block's number and the version
+-- words, the block's number and the version
 abbrev pub block_text : List ℕ → ℕ → ℕ → List ℕ
-block_text word block version = field_text word block ++ field_text (codes " version ") version
+block_text words block version = field_text words block ++ field_text (codes " version ") version
 
 -- the place that was spent; 40 is the self place
 abbrev pub place_text : ℕ → List ℕ

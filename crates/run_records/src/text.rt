@@ -1,51 +1,37 @@
 //! The text of records, and the report of a run.
-ghost use Rattle.std.specs.Prelude.{◌≡◌, ◌++◌, length, codes, decimal, OnOk, IfOk};
+ghost use Rattle.std.specs.Prelude.{◌≡◌, ◌++◌, length, OnOk, IfOk};
 ghost use Rattle.std.specs.List.{flat_map};
-ghost use Rattle.run_records.specs.Text.{IsReport, field_text, life_text, block_text, place_text, hit_text, cause_text, record_text, line_of, value_line};
+ghost use Rattle.run_records.specs.Text.{IsReport, life_text, block_text, place_text, hit_text, cause_text, record_text, line_of, value_line};
 
 use crate::order::sorted;
 use graph_model::{Cause, Found, Hit, Key, Record, Text};
-use itoa::Buffer;
 use std::alloc::{AllocError, Global};
+use text_lines::{put, put_field, put_signed};
 
 // Room for a usual line: the text is moved only where many lines are longer.
 const LINE_ROOM: usize = 32;
 
-fn put_number(text: &mut Vec<u8>, number: u64) -> Result<(), AllocError>
-    ensures { OnOk result (text.new.items ≡ text.old.items ++ decimal number) }
+fn put_life(text: &mut Vec<u8>, words: &str, key: Key, life: u32) -> Result<(), AllocError>
+    ensures { OnOk result (text.new.items ≡ text.old.items ++ life_text words.now key life) }
 {
-    text.extend_from_slice(Buffer::new().format(number).as_bytes())
+    put_field(text, words, key.0)?;
+    put_field(text, " life ", life as u64)
 }
 
-// A word, and the number after it.
-fn put_field(text: &mut Vec<u8>, word: &[u8], number: u64) -> Result<(), AllocError>
-    ensures { OnOk result (text.new.items ≡ text.old.items ++ field_text word.now number) }
+fn put_block(text: &mut Vec<u8>, words: &str, block: u32, version: u32) -> Result<(), AllocError>
+    ensures { OnOk result (text.new.items ≡ text.old.items ++ block_text words.now block version) }
 {
-    text.extend_from_slice(word)?;
-    put_number(text, number)
-}
-
-fn put_life(text: &mut Vec<u8>, word: &[u8], key: Key, life: u32) -> Result<(), AllocError>
-    ensures { OnOk result (text.new.items ≡ text.old.items ++ life_text word.now key life) }
-{
-    put_field(text, word, key.0)?;
-    put_field(text, b" life ", life as u64)
-}
-
-fn put_block(text: &mut Vec<u8>, word: &[u8], block: u32, version: u32) -> Result<(), AllocError>
-    ensures { OnOk result (text.new.items ≡ text.old.items ++ block_text word.now block version) }
-{
-    put_field(text, word, block as u64)?;
-    put_field(text, b" version ", version as u64)
+    put_field(text, words, block as u64)?;
+    put_field(text, " version ", version as u64)
 }
 
 fn put_place(text: &mut Vec<u8>, place: u32) -> Result<(), AllocError>
     ensures { OnOk result (text.new.items ≡ text.old.items ++ place_text place) }
 {
     if place == 40 {
-        text.extend_from_slice(b" self")
+        put(text, " self")
     } else {
-        put_field(text, b" place ", place as u64)
+        put_field(text, " place ", place as u64)
     }
 }
 
@@ -53,9 +39,9 @@ fn put_hit(text: &mut Vec<u8>, hit: Hit) -> Result<(), AllocError>
     ensures { OnOk result (text.new.items ≡ text.old.items ++ hit_text hit) }
 {
     match hit {
-        Hit::Descriptor => text.extend_from_slice(b" descriptor"),
-        Hit::Notify { word } => put_field(text, b" notify ", word as u64),
-        Hit::Block { block, version } => put_block(text, b" block ", block, version),
+        Hit::Descriptor => put(text, " descriptor"),
+        Hit::Notify { word } => put_field(text, " notify ", word as u64),
+        Hit::Block { block, version } => put_block(text, " block ", block, version),
     }
 }
 
@@ -63,17 +49,17 @@ fn put_cause(text: &mut Vec<u8>, cause: &Cause) -> Result<(), AllocError>
     ensures { OnOk result (text.new.items ≡ text.old.items ++ cause_text cause.now) }
 {
     match *cause {
-        Cause::Descriptor => text.extend_from_slice(b"descriptor"),
-        Cause::Notify => text.extend_from_slice(b"notify"),
+        Cause::Descriptor => put(text, "descriptor"),
+        Cause::Notify => put(text, "notify"),
         Cause::Block {
             block,
             version,
             found,
         } => {
-            put_block(text, b"block ", block, version)?;
+            put_block(text, "block ", block, version)?;
             match found {
-                Found::Struck { version: _ } => text.extend_from_slice(b" struck"),
-                Found::Other { version: last } => put_field(text, b" found ", last as u64),
+                Found::Struck { version: _ } => put(text, " struck"),
+                Found::Other { version: last } => put_field(text, " found ", last as u64),
             }
         }
     }
@@ -83,27 +69,27 @@ fn put_record(text: &mut Vec<u8>, event: &Record) -> Result<(), AllocError>
     ensures { OnOk result (text.new.items ≡ text.old.items ++ record_text event.now) }
 {
     match *event {
-        Record::Created { key } => put_field(text, b"created ", key.0),
+        Record::Created { key } => put_field(text, "created ", key.0),
         Record::Spent { key, life, place } => {
-            put_life(text, b"spent ", key, life)?;
+            put_life(text, "spent ", key, life)?;
             put_place(text, place)
         }
-        Record::Computed { key, life } => put_life(text, b"computed ", key, life),
+        Record::Computed { key, life } => put_life(text, "computed ", key, life),
         Record::Written {
             key,
             life,
             block,
             version,
         } => {
-            put_life(text, b"written ", key, life)?;
-            put_block(text, b" block ", block, version)
+            put_life(text, "written ", key, life)?;
+            put_block(text, " block ", block, version)
         }
         Record::Closed { key, life, word } => {
-            put_life(text, b"closed ", key, life)?;
-            put_field(text, b" word ", word as u64)
+            put_life(text, "closed ", key, life)?;
+            put_field(text, " word ", word as u64)
         }
         Record::Struck { key, life, hit } => {
-            put_life(text, b"struck ", key, life)?;
+            put_life(text, "struck ", key, life)?;
             put_hit(text, hit)
         }
         Record::Replaced {
@@ -111,8 +97,8 @@ fn put_record(text: &mut Vec<u8>, event: &Record) -> Result<(), AllocError>
             life,
             ref cause,
         } => {
-            put_life(text, b"replaced ", key, life)?;
-            text.extend_from_slice(b" because ")?;
+            put_life(text, "replaced ", key, life)?;
+            put(text, " because ")?;
             put_cause(text, cause)
         }
     }
@@ -122,15 +108,15 @@ fn put_line(text: &mut Vec<u8>, event: &Record) -> Result<(), AllocError>
     ensures { OnOk result (text.new.items ≡ text.old.items ++ line_of event.now) }
 {
     put_record(text, event)?;
-    text.extend_from_slice(b"\n")
+    put(text, "\n")
 }
 
 fn put_value(text: &mut Vec<u8>, value: i64) -> Result<(), AllocError>
     ensures { OnOk result (text.new.items ≡ text.old.items ++ value_line value) }
 {
-    text.extend_from_slice(b"value ")?;
-    text.extend_from_slice(Buffer::new().format(value).as_bytes())?;
-    text.extend_from_slice(b"\n")
+    put(text, "value ")?;
+    put_signed(text, value)?;
+    put(text, "\n")
 }
 
 fn put_lines(text: &mut Vec<u8>, records: &[Record]) -> Result<(), AllocError>

@@ -3,4 +3,4 @@
 
 mod fields;
 
-pub use fields::{put, put_field, put_number};
+pub use fields::{put, put_field, put_number, put_signed};

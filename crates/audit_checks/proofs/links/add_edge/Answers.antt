@@ -1,5 +1,5 @@
-use Rattle.std.proofs.Common.{◌≡◌, ◌<◌, ◌∙◌, ℕ, length, ap, sym, arith}
-use Rattle.audit_checks.specs.Rows.{rows_of, row}
+use Rattle.std.proofs.Common.{◌≡◌, length, ap, arith}
+use Rattle.audit_checks.specs.Rows.{row}
 use Rattle.audit_checks.specs.Links.{places_in, succs_in}
 use Rattle.audit_checks.proofs.RowLemmas.{row_at, rows_long}
 use Rattle.audit_checks.proofs.Mirror.{reverse_pushed}

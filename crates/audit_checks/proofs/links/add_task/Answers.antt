@@ -1,4 +1,4 @@
-use Rattle.std.proofs.Common.{◌≡◌, ◌∙◌, length, get_or, refl, subst, sym, arith, Contains}
+use Rattle.std.proofs.Common.{◌∙◌, length, refl, subst, sym, arith, Contains}
 use Rattle.audit_checks.specs.Tasks.{places_of}
 use Rattle.audit_checks.specs.Rows.{row}
 use Rattle.audit_checks.specs.Links.{places_in, succs_in}

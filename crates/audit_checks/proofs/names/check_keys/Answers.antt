@@ -1,6 +1,5 @@
 use Rattle.std.proofs.Common.{arith}
 use Rattle.audit_checks.proofs.LeastTask.{twice_fault}
-use Rattle.audit_checks.proofs.Keys.{ascending_from}
 use Rattle.audit_checks.proofs.names.check_keys.Goals as goal
 
 pub returns-then-keys-i-clause-err : goal.returns-then-keys-i-clause-err

@@ -1,5 +1,4 @@
-use Rattle.std.proofs.Common.{◌∙◌, Contains, arith, below_more}
-use Rattle.std.proofs.lemmas.List.{get_or_default}
+use Rattle.std.proofs.Common.{Contains, arith, below_more}
 use Rattle.std.proofs.lemmas.List.Elements.{All-from_get_or}
 use Rattle.audit_checks.specs.Tasks.{places_of}
 use Rattle.audit_checks.proofs.LeastTask.{contains_at}

@@ -1,4 +1,4 @@
-use Rattle.std.proofs.Common.{◌∙◌, arith}
+use Rattle.std.proofs.Common.{arith}
 use Rattle.audit_checks.proofs.EdgeCounts.{count_sink, count_other}
 use Rattle.audit_checks.proofs.LeastTask.{keys_count}
 use Rattle.audit_checks.proofs.sizes.edges_at.Goals as goal

@@ -2,7 +2,7 @@ use Rattle.std.proofs.Common.{◌≡◌, ◌∙◌, ◌<◌, ◌≤◌, ℕ, len
 use Rattle.std.proofs.lemmas.List.{get_or_default}
 use Rattle.audit_checks.specs.Rows.{rows_of, row, IsWithin, Names}
 use Rattle.audit_checks.proofs.RowLemmas.{row_at, within_at}
-use Rattle.audit_cycles.specs.Hints.{NeverRises}
+use Rattle.audit_cycles.specs.Components.{NeverRises}
 use Rattle.audit_cycles.proofs.CycleLaws.{none_more, cleared}
 use Rattle.audit_cycles.proofs.cycles.first_on_cycle.Goals as goal
 

@@ -1,6 +1,6 @@
 use Rattle.std.proofs.Common.{◌<◌, ℕ, length, sym, subst, arith}
 use Rattle.audit_checks.specs.Rows.{rows_of}
-use Rattle.audit_checks.specs.Levels.{level}
+use Rattle.audit_cycles.specs.Levels.{level}
 use Rattle.audit_checks.proofs.RowLemmas.{rows_long, within_rows}
 use Rattle.audit_cycles.specs.Ancestors.{HasNoCycleBefore}
 use Rattle.audit_cycles.proofs.CycleLaws.{all_levels}

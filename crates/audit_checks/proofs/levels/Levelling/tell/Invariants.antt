@@ -1,8 +1,0 @@
-use Rattle.audit_checks.specs.Rows.{rows_of}
-use Rattle.audit_checks.specs.Work.{work_left}
-use Rattle.audit_checks.proofs.LevelSteps.{IsTelling}
-use Rattle.audit_checks.proofs.levels.Levelling.tell.Given as goal
-
-abbrev pub invariant-loop-k : goal.invariant-loop-k
-invariant-loop-k l =
-    IsTelling (rows_of l.places) l.self.levels.items (rows_of l.self.waiting.items) l.self.ready.items l.k-items l.k-index (work_left l.initial.self)
