@@ -1,6 +1,9 @@
-pub mod SpellingLaws
-pub mod ReadingLaws
-pub mod SayingLaws
 pub mod ListLaws
-pub mod MeaningLaws
+pub mod ClapTable
+pub mod ClapRows
+pub mod ClapWords
+pub mod ClapWalk
+pub mod ClapSpells
 pub mod ClapLaws
+pub mod ReadingLaws
+pub mod MeaningLaws

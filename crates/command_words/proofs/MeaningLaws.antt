@@ -1,10 +1,10 @@
 -- Words stand for one command at most.
-use Rattle.std.proofs.Common.{◌≡◌, ◌∙◌, ℕ, List, [], ◌∷◌, Option, Some, None, MatchOption, codes, refl, sym, ap, subst}
+use Rattle.std.proofs.Common.{◌≡◌, ◌∙◌, ℕ, List, ◌∷◌, Option, Some, None, MatchOption, codes, refl, sym, ap, subst, arith}
 use Rattle.std.specs.Prelude.{All, if◌then◌else◌}
 use Rattle.std.specs.Str.{bytes_eq}
 use Rattle.command_words.specs.Options.{Text, name_of}
-use Rattle.command_words.specs.Given.{Given, put, nothing}
-use Rattle.command_words.specs.Spelling.{Spells, done, one, two, IsReserved}
+use Rattle.command_words.specs.Given.{Given, nothing}
+use Rattle.command_words.specs.Spelling.{Spells, IsFree, IsPlain, IsReserved}
 use Rattle.command_words.specs.Numbers.{IsNumber, HasValue, HasSchedule}
 use Rattle.command_words.specs.Meaning.{Asked, run, replay, paths, drill, check, print, asked, kind_of, HasValues, StandsFor, StandsForNone}
 use Rattle.command_words.specs.Building.{Builds}
@@ -12,7 +12,9 @@ use Rattle.command_words.specs.declared.options.Kind.{Kind}
 use Rattle.command_words.specs.declared.options.Kind.TheVariants.{Run, Replay, Paths, Drill, Check, Print}
 use Rattle.command_words.specs.declared.command.Command.{Command}
 use Rattle.command_words.proofs.ListLaws.{one_number, one_list}
-use Rattle.command_words.proofs.ReadingLaws.{after_one, after_two}
+use Rattle.command_words.proofs.ClapWords.{plain_passes}
+use Rattle.command_words.proofs.ClapWalk.{AllPass, all_pass, rest_passes}
+use Rattle.command_words.proofs.ClapLaws.{clap_law}
 
 abbrev kind_at : Text → Option Kind
 kind_at t = if bytes_eq t (codes "run") then Some Run else (if bytes_eq t (codes "replay") then Some Replay else (if bytes_eq t (codes "paths") then Some Paths
@@ -30,14 +32,9 @@ named Print = refl
 pub one_kind : (k l : Kind) → name_of k ≡ name_of l → k ≡ l
 one_kind k l e = let a = named k in let b = named l in let c : kind_at (name_of k) ≡ kind_at (name_of l) = ap kind_at e in cc
 
-no_more : (kind : Kind) (before given : Given) → Spells kind before [] given → before ≡ given
-no_more kind before given (done x) = refl
-
--- words give one thing
-pub one_given : (kind : Kind) (before : Given) (words : List Text) (g h : Given) → Spells kind before words g → Spells kind before words h → g ≡ h
-one_given kind before words g h (done x) s = no_more kind x h s
-one_given kind before words g h (one b a w v n r gift taken free s) t = one_given kind (put n v b) r a h s (after_one kind b h w v n r gift t).1
-one_given kind before words g h (two b a w v n r valued e plain taken free s) t = one_given kind (put n v b) r a h s (after_two kind b h w v n r valued e t).2
+-- words give one thing, which clap finds
+pub one_given : (kind : Kind) (words : List Text) (g h : Given) → Spells kind nothing words g → Spells kind nothing words h → g ≡ h
+one_given kind words g h s t = sym ((clap_law kind words g).0 s).found ∙ ((clap_law kind words h).0 t).found
 
 -- what a command is, in terms of a first word and what is given
 meant : (words rest : List Text) (kind : Kind) (given : Given) (command : Asked) → words ≡ name_of kind ∷ rest → Spells kind nothing rest given
@@ -47,8 +44,33 @@ meant words rest kind given command first spelled s =
     let names : name_of (kind_of command) ≡ name_of kind = cc in
     let behind : s.rest ≡ rest = cc in
     let kinds = one_kind (kind_of command) kind names in
-    let same : s.given ≡ given = one_given kind nothing rest s.given given (subst (λ r. Spells kind nothing r s.given) behind (subst (λ k. Spells k nothing s.rest s.given) kinds s.spelled)) spelled in
+    let same : s.given ≡ given = one_given kind rest s.given given (subst (λ r. Spells kind nothing r s.given) behind (subst (λ k. Spells k nothing s.rest s.given) kinds s.spelled)) spelled in
     (kinds, subst (λ g. HasValues g command) same s.values)
+
+-- ---- own checks
+
+plain_name : (kind : Kind) → IsPlain (name_of kind)
+plain_name Run e = absurd (omega arith)
+plain_name Replay e = absurd (omega arith)
+plain_name Paths e = absurd (omega arith)
+plain_name Drill e = absurd (omega arith)
+plain_name Check e = absurd (omega arith)
+plain_name Print e = absurd (omega arith)
+
+-- words that stand for a command pass them
+pub all_free : (words : List Text) (command : Asked) → StandsFor words command → All IsFree words
+all_free words command s k d lt = (s.free k d lt, passed k d lt)
+  where
+    passed : AllPass words
+    passed = subst AllPass (sym s.first)
+        (all_pass (name_of (kind_of command)) s.rest (plain_passes (name_of (kind_of command)) (plain_name (kind_of command))) ((clap_law (kind_of command) s.rest s.given).0 s.spelled).passed)
+
+-- and so do those behind the first one
+pub rest_free : (words rest : List Text) (word : Text) → words ≡ word ∷ rest → All IsFree words → AllPass rest
+rest_free words rest word e h = rest_passes word rest (λ k d lt. (subst (All IsFree) e h k d lt).1)
+
+pub none_reserved : (words : List Text) → All IsFree words → All (λ word. ¬ IsReserved word) words
+none_reserved words h k d lt = (h k d lt).0
 
 -- the command that is built is the one that the words stand for
 pub built_meaning : (words rest : List Text) (kind : Kind) (given : Given) (found : Option Command)

@@ -1,7 +1,6 @@
 pub mod Options
 pub mod Given
 pub mod Spelling
-pub mod Saying
 pub mod Numbers
 pub mod Meaning
 pub mod Building

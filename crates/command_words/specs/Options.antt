@@ -31,10 +31,6 @@ dashed Schedule = codes "--schedule"
 dashed Turns = codes "--turns"
 dashed Number = []
 
--- the word names no option
-abbrev pub IsNoOption : Text → Type 0
-IsNoOption word = (name : Name) → name ≢ Number → word ≢ dashed name
-
 -- the options that are followed by a value
 abbrev pub takes_value : Name → Bool
 takes_value Workers = true

@@ -29,3 +29,11 @@ pub data Spells (kind : Kind) : Given → List Text → Given → Type 0 where
 -- the words that are refused wherever they stand
 abbrev pub IsReserved : Text → Type 0
 IsReserved word = (word ≡ codes "--") ⊎ (word ≡ codes "-h") ⊎ (word ≡ codes "--help") ⊎ (word ≡ codes "help") ⊎ (word ≡ codes "-V") ⊎ (word ≡ codes "--version")
+
+-- words that spell nothing, and that clap alone may take: `--`, and what begins with a single dash
+abbrev pub IsLetThrough : Text → Type 0
+IsLetThrough word = (word ≡ codes "--") ⊎ ((slice_index word 0 ≡ 45) × (slice_index word 1 ≢ 45))
+
+-- words that clap alone decides
+abbrev pub IsFree : Text → Type 0
+IsFree word = (¬ IsReserved word) × (¬ IsLetThrough word)

@@ -1,6 +1,6 @@
 ghost use Rattle.std.specs.Prelude.{◌≡◌};
 ghost use Rattle.std.specs.Option.{option_map};
-ghost use Rattle.command_words.specs.Given.{seen, slot, put, nothing};
+ghost use Rattle.command_words.specs.Given.{seen, slot};
 
 use crate::options::Name;
 
@@ -16,20 +16,6 @@ pub struct Given<'a> {
 }
 
 impl<'a> Given<'a> {
-    /// No option.
-    pub fn nothing() -> Given<'a>
-        ensures { seen result ≡ nothing }
-    {
-        Given {
-            workers: None,
-            lives: None,
-            records: None,
-            schedule: None,
-            turns: None,
-            number: None,
-        }
-    }
-
     /// What is given for the option.
     pub fn slot(&self, name: Name) -> Option<&'a str>
         ensures { option_map (λ s. s.now) result ≡ slot name (seen self.now) }
@@ -42,21 +28,5 @@ impl<'a> Given<'a> {
             Name::Turns => self.turns,
             Name::Number => self.number,
         }
-    }
-
-    /// The same with this value for the option.
-    pub fn with(self, name: Name, value: &'a str) -> Given<'a>
-        ensures { seen result ≡ put name value.now (seen self.entry) }
-    {
-        let mut next = self;
-        match name {
-            Name::Workers => next.workers = Some(value),
-            Name::Lives => next.lives = Some(value),
-            Name::Records => next.records = Some(value),
-            Name::Schedule => next.schedule = Some(value),
-            Name::Turns => next.turns = Some(value),
-            Name::Number => next.number = Some(value),
-        }
-        next
     }
 }

@@ -1,5 +1,5 @@
-ghost use Rattle.std.specs.Prelude.{◌≡◌, ◌≢◌, MatchOption};
-ghost use Rattle.command_words.specs.Options.{dashed, name_of, takes, takes_value, IsNoOption, IsNoCommand};
+ghost use Rattle.std.specs.Prelude.{◌≡◌, MatchOption};
+ghost use Rattle.command_words.specs.Options.{name_of, takes, IsNoCommand};
 
 /// The first word of a command.
 #[derive(Clone, Copy, Debug, PartialEq, Eq)]
@@ -72,28 +72,6 @@ pub fn kind_named(word: &str) -> Option<Kind>
     }
     if word == "print" {
         return Some(Kind::Print);
-    }
-    None
-}
-
-/// The option of this name, which begins with two dashes.
-pub fn option_named(word: &str) -> Option<Name>
-    ensures { MatchOption result (IsNoOption word.now) (λ name. (word.now ≡ dashed name) × (name ≢ Name.Number)) }
-{
-    if word == "--workers" {
-        return Some(Name::Workers);
-    }
-    if word == "--lives" {
-        return Some(Name::Lives);
-    }
-    if word == "--records" {
-        return Some(Name::Records);
-    }
-    if word == "--schedule" {
-        return Some(Name::Schedule);
-    }
-    if word == "--turns" {
-        return Some(Name::Turns);
     }
     None
 }

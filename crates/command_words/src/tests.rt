@@ -1,13 +1,6 @@
 //! Lists of words, and what they stand for. A line is cut at each single space, so two spaces in a row stand round an empty word.
 
-use crate::by_clap::table_matches;
-use crate::given::Given;
-use crate::options::{Kind, Name, kind_named, takes};
-use crate::reading::read;
-use crate::spelling::is_reserved;
 use crate::{Command, command_of};
-use clap::error::ErrorKind;
-use clap::{ArgMatches, Error};
 use std::alloc::{AllocError, Global};
 use std::test::Fail;
 
@@ -277,69 +270,5 @@ fn long_schedules(rt: HostRuntime) -> Result<(), Fail> {
     let words = zeros(rt.alloc(), 4097)?;
     let found = command_of(rt.alloc(), words.as_slice())?;
     assert!(rt; found.is_none());
-    Ok(())
-}
-
-// Whether a word is one that clap would take, and that stands nowhere.
-fn is_refused_before(word: &str) -> bool {
-    is_reserved(word) || (word.starts_with('-') && !word.starts_with("--"))
-}
-
-// Whether clap found an option that the command does not take.
-fn has_stranger(kind: Kind, matches: &ArgMatches<'_>) -> bool {
-    (matches.get_str("workers").is_some() && !takes(kind, Name::Workers))
-        || (matches.get_str("lives").is_some() && !takes(kind, Name::Lives))
-        || (matches.get_str("records") == Some("true") && !takes(kind, Name::Records))
-        || (matches.get_str("schedule").is_some() && !takes(kind, Name::Schedule))
-        || (matches.get_str("turns").is_some() && !takes(kind, Name::Turns))
-        || (matches.get_str("number").is_some() && !takes(kind, Name::Number))
-}
-
-// Whether clap found what the crate's own reader found.
-fn is_alike(given: Given<'_>, matches: &ArgMatches<'_>) -> bool {
-    given.workers == matches.get_str("workers")
-        && given.lives == matches.get_str("lives")
-        && given.records.is_some() == (matches.get_str("records") == Some("true"))
-        && given.schedule == matches.get_str("schedule")
-        && given.turns == matches.get_str("turns")
-        && given.number == matches.get_str("number")
-}
-
-// Whether clap reads the words as the crate's own reader does.
-fn is_read_alike(alloc: Global, words: &[String]) -> Result<bool, Error> {
-    for word in words {
-        if is_refused_before(word.as_str()) {
-            return Ok(true);
-        }
-    }
-    let [first, rest @ ..] = words else {
-        return Ok(true);
-    };
-    let Some(kind) = kind_named(first.as_str()) else {
-        return Ok(true);
-    };
-    let own = read(kind, Given::nothing(), rest);
-    match table_matches(alloc, rest) {
-        Ok(matches) => match own {
-            Some(given) => Ok(is_alike(given, &matches)),
-            None => Ok(has_stranger(kind, &matches)),
-        },
-        Err(error) if error.kind() == ErrorKind::OutOfMemory => Err(error),
-        Err(_) => Ok(own.is_none()),
-    }
-}
-
-#[test]
-fn clap_reads_alike(rt: HostRuntime) -> Result<(), Fail> {
-    for line in refused() {
-        let words = words_of(rt.alloc(), line)?;
-        let alike = is_read_alike(rt.alloc(), words.as_slice()).expect(&rt, "memory");
-        assert!(rt; alike, "{line}");
-    }
-    for (line, _) in taken() {
-        let words = words_of(rt.alloc(), line)?;
-        let alike = is_read_alike(rt.alloc(), words.as_slice()).expect(&rt, "memory");
-        assert!(rt; alike, "{line}");
-    }
     Ok(())
 }

@@ -1,27 +1,14 @@
-use Rattle.std.proofs.Common.{ap, ap₂, codes, true, ◌≡◌, ◌∙◌, map, string_bytes}
-use Rattle.clap.specs.Simple.{Shape, app_of, app_of_fields, new_app, with_rule, on_top}
+use Rattle.std.proofs.Common.{map, string_bytes}
+use Rattle.clap.specs.Simple.{app_of}
 use Rattle.command_words.specs.ByClap.{table_app}
-use Rattle.command_words.proofs.ClapLaws.{table_is, table_is_free, table_is_simple, fails_by, rows_by}
+use Rattle.command_words.proofs.ClapLaws.{answers_spelled, table_is_free, table_is_simple, fails_by, rows_by}
 use Rattle.command_words.proofs.by_clap.table_matches.Goals as goal
-
-abbrev named : Shape → Shape
-named s = record s { no_binary_name = true }
-
-abbrev helpless : Shape → Shape
-helpless s = record s { disable_help_flag = true }
 
 pub returns : goal.returns
 returns c =
-    let base : app_of c.disable_help_flag.result ≡ on_top helpless (on_top named (new_app (codes "words"))) =
-    ap app_of_fields c.disable_help_flag.ensures ∙ ap (on_top helpless) (ap app_of_fields c.no_binary_name.ensures ∙ ap (on_top named) c.new.ensures.app) in
-    let one = c.in_ok-arg.ensures.shape c.value_option-workers.ensures.local ∙ ap₂ with_rule base c.value_option-workers.ensures.rule in
-    let two = c.in_ok-arg-2.ensures.shape c.value_option-lives.ensures.local ∙ ap₂ with_rule one c.value_option-lives.ensures.rule in
-    let three = c.in_ok-arg-3.ensures.shape c.flag_option-records.ensures.local ∙ ap₂ with_rule two c.flag_option-records.ensures.rule in
-    let four = c.in_ok-arg-4.ensures.shape c.value_option-schedule.ensures.local ∙ ap₂ with_rule three c.value_option-schedule.ensures.rule in
-    let five = c.in_ok-arg-5.ensures.shape c.value_option-turns.ensures.local ∙ ap₂ with_rule four c.value_option-turns.ensures.rule in
-    let app : app_of c.in_ok-command.command ≡ table_app = c.in_ok-command.ensures.shape c.lone_word-number.ensures.local ∙ ap₂ with_rule five c.lone_word-number.ensures.rule ∙ table_is in
+    let words = map string_bytes c.args.words.now in
+    let app = app_of c.in_ok-command.command in
     let parse = c.try_get_matches_from in
-    record {
-      fails = fails_by (app_of c.in_ok-command.command) table_app (map string_bytes c.args.words.now) parse.result app table_is_free parse.ensures.kinds;
-      rows = rows_by (app_of c.in_ok-command.command) table_app (map string_bytes c.args.words.now) parse.result app table_is_simple parse.ensures.matches;
-    }
+    let fault = fails_by app table_app words parse.result c.in_ok-command.ensures table_is_free parse.ensures.kinds in
+    let matches = rows_by app table_app words parse.result c.in_ok-command.ensures table_is_simple parse.ensures.matches in
+    record { fails = fault; rows = matches; meaning = answers_spelled words parse.result fault matches }
