@@ -77,11 +77,11 @@ module _ (rows : ℕ) (some : 0 < rows) where
   times_rows (suc a) = let h = times_rows a in let c : suc a * rows ≡ a * rows + rows = grind arith in omega (arith, h, c, some)
 
   -- the places of an exploring
-  few_places : (p s h : ℕ) → p * (rows + 14) + 2 * h + 8 ≤ 40 * rows * (p + s + 2) + 4 * h
+  few_places : (p s h : ℕ) → p * (rows + 14) + 2 * h + 12 ≤ 40 * rows * (p + s + 2) + 4 * h
   few_places p s h = let a = times_rows p in let x : p * (rows + 14) ≡ p * rows + 14 * p = grind arith in let y : 40 * rows * (p + s + 2) ≡ 40 * (p * rows) + 40 * (s * rows) + 80 * rows = grind arith in omega (arith, a, x, y, some)
 
   -- the inputs, the words and the ports of a computing
-  few_ports : (p s i words a h : ℕ) → i ≤ p → words ≤ 17 → a ≤ h → 2 * i + 2 * words + s * (rows + 7) + rows + 2 * a + 6 ≤ 40 * rows * (p + s + 2) + 4 * h
+  few_ports : (p s i words a h : ℕ) → i ≤ p → words ≤ 17 → a ≤ h → 2 * i + 2 * words + s * (rows + 7) + rows + 2 * a + 10 ≤ 40 * rows * (p + s + 2) + 4 * h
   few_ports p s i words a h low few fewer = let b = times_rows p in let c = times_rows s in let x : s * (rows + 7) ≡ s * rows + 7 * s = grind arith in let y : 40 * rows * (p + s + 2) ≡ 40 * (p * rows) + 40 * (s * rows) + 80 * rows = grind arith in omega (arith, b, c, x, y, low, few, fewer, some)
 
 module _ (g : TaskGraph) (strikes : List Strike) (lives : ℕ) (e : Setting) (runs : Runs g strikes lives e) (duty : Duty) where
@@ -92,7 +92,8 @@ module _ (g : TaskGraph) (strikes : List Strike) (lives : ℕ) (e : Setting) (ru
   places_all zero = omega arith
   places_all (suc p) = let a : suc p * (e.shape.rows + 14) ≡ (e.shape.rows + 14) + p * (e.shape.rows + 14) = grind arith in let d : suc p - (0 + 1) ≡ p = omega arith in let b : cond (nat_lt 0 (suc p)) ((e.shape.rows + 14) + (suc p - (0 + 1)) * (e.shape.rows + 14)) 0 ≡ (e.shape.rows + 14) + p * (e.shape.rows + 14) = ap (λ (c : Bool). cond c ((e.shape.rows + 14) + (suc p - (0 + 1)) * (e.shape.rows + 14)) 0) (lt-ltb 0 (suc p) (omega arith)) ∙ ap (λ z. (e.shape.rows + 14) + z * (e.shape.rows + 14)) d in omega (arith, a, b)
 
-  pub job_few : IsCoreKey g duty.key.0 → (i : Job) → job_rest e strikes duty i ≤ few_left e strikes duty.key duty.life
+  -- also where a post brought it, whose hint is paid besides
+  pub job_few : IsCoreKey g duty.key.0 → (i : Job) → job_rest e strikes duty i + 4 ≤ few_left e strikes duty.key duty.life
   job_few key job.Explore =
       let a : places_rest e (record { duty = duty; place = 0; way = reaching.Start; made = 0 }) ≡ e.graph.places k * (e.shape.rows + 14) = places_all (e.graph.places k) in let h = first_point duty.key duty.life strikes in
       let b = few_places e.shape.rows runs.some_row (e.graph.places k) (e.graph.ports k) (length (life_strikes duty.key duty.life strikes)) in omega (arith, a, h, b)

@@ -82,24 +82,22 @@ module _ (e : Setting) (p : List Strike) where
   rest_low (x ∷ []) = omega arith
   rest_low (x ∷ y ∷ xs) = let a = rest_low (y ∷ xs) in omega (arith, a)
 
--- the last item that is not over is one alone
+-- an item that is not over is none of those that are
+not_among : (g : Graph) (p : List Strike) (x : Item) (gone zs over : List Item) → is_over g p x ≡ false → AllOver g p over → over ≡ zs ++ x ∷ gone → ⊥
+not_among g p x gone [] [] stays all is = cc
+not_among g p x gone [] (w ∷ ws) stays all is = let a : w ≡ x = cc in let b = all.0 in let d : true ≡ false = sym b ∙ ap (is_over g p) a ∙ stays in cc
+not_among g p x gone (z ∷ zs) [] stays all is = cc
+not_among g p x gone (z ∷ zs) (w ∷ ws) stays all is = not_among g p x gone zs ws stays all.1 cc
+
+-- the last item that is not over is one alone, and so are those before it
+pub next_alone : (g : Graph) (p : List Strike) (left others : List Item) (x y : Item) (gone more : List Item) → is_over g p x ≡ false → is_over g p y ≡ false → AllOver g p gone → AllOver g p more → left ++ x ∷ gone ≡ others ++ y ∷ more → (left ≡ others) × (x ≡ y)
+next_alone g p [] [] x y gone more ends stays over all same = (refl, cc)
+next_alone g p [] (z ∷ zs) x y gone more ends stays over all same = absurd (not_among g p y more zs gone stays over (let a : gone ≡ zs ++ y ∷ more = cc in a))
+next_alone g p (z ∷ zs) [] x y gone more ends stays over all same = absurd (not_among g p x gone zs more ends all (let a : zs ++ x ∷ gone ≡ more = cc in sym a))
+next_alone g p (z ∷ zs) (w ∷ ws) x y gone more ends stays over all same = let a : z ≡ w = cc in let b = next_alone g p zs ws x y gone more ends stays over all cc in (ap (λ u. u ∷ zs) a ∙ ap (λ us. w ∷ us) b.0, b.1)
+
 pub next_once : (g : Graph) (p : List Strike) (left others : List Item) (x y : Item) (gone more : List Item) → is_over g p x ≡ false → is_over g p y ≡ false → AllOver g p gone → AllOver g p more → left ++ x ∷ gone ≡ others ++ y ∷ more → x ≡ y
-next_once g p [] [] x y gone more ends stays over all same = cc
-next_once g p [] (z ∷ zs) x y gone more ends stays over all same = absurd (not_over zs gone over (let a : gone ≡ zs ++ y ∷ more = cc in a))
-  where
-    not_over : (zs gone : List Item) → AllOver g p gone → gone ≡ zs ++ y ∷ more → ⊥
-    not_over [] [] over is = cc
-    not_over [] (w ∷ ws) over is = let a : w ≡ y = cc in let b = over.0 in let d : true ≡ false = sym b ∙ ap (is_over g p) a ∙ stays in cc
-    not_over (z ∷ zs) [] over is = cc
-    not_over (z ∷ zs) (w ∷ ws) over is = not_over zs ws over.1 cc
-next_once g p (z ∷ zs) [] x y gone more ends stays over all same = absurd (not_over zs more all (let a : zs ++ x ∷ gone ≡ more = cc in sym a))
-  where
-    not_over : (zs more : List Item) → AllOver g p more → more ≡ zs ++ x ∷ gone → ⊥
-    not_over [] [] over is = cc
-    not_over [] (w ∷ ws) over is = let a : w ≡ x = cc in let b = over.0 in let d : true ≡ false = sym b ∙ ap (is_over g p) a ∙ ends in cc
-    not_over (z ∷ zs) [] over is = cc
-    not_over (z ∷ zs) (w ∷ ws) over is = not_over zs ws over.1 cc
-next_once g p (z ∷ zs) (w ∷ ws) x y gone more ends stays over all same = next_once g p zs ws x y gone more ends stays over all cc
+next_once g p left others x y gone more ends stays over all same = (next_alone g p left others x y gone more ends stays over all same).1
 
 -- the first item of a job's stack stays, whatever comes behind
 pub credit_stays : (xs ys zs : List Item) → FromCredit (xs ++ ys) → (xs ≡ [] → FromCredit zs) → FromCredit (xs ++ zs)

@@ -6,7 +6,7 @@ use Rattle.core_state.specs.Graph.{Setting}
 use Rattle.core_state.specs.Events.{Event}
 use Rattle.core_state.specs.declared.block.BlockCells.{BlockCells}
 use Rattle.core_state.specs.declared.views.View.{View}
-use Rattle.compute_notify.specs.Resting.{LetsFall, after_rest, came_rest, item_rest, phase_rest}
+use Rattle.compute_notify.specs.Resting.{FallsGood, LetsFall, after_rest, came_rest, item_rest, phase_rest}
 use Rattle.compute_notify.specs.Tasks.{HasTurned, IsNext, after_items, begun_items, came_items, items_rest, some_list, task_items, task_rest}
 use Rattle.compute_notify.specs.Working.{came_hand}
 use Rattle.compute_notify.specs.declared.compute.Phase.{Phase}
@@ -67,7 +67,7 @@ module _ (e : Setting) (p : List Strike) where
       (λ more. inr (more.0, more.1, (let m = more.2 in omega (arith, below, above, m))))
       falls
 
-  before_more : (h : Option BlockCells) (left : List Item) (x : Item) (gone : List Item) → low_rest e p left + item_rest e p h x ≤ items_rest e p h (left ++ x ∷ gone)
+  pub before_more : (h : Option BlockCells) (left : List Item) (x : Item) (gone : List Item) → low_rest e p left + item_rest e p h x ≤ items_rest e p h (left ++ x ∷ gone)
   before_more h left x [] = let a = rest_behind e p h left x [] in omega (arith, a)
   before_more h left x (y ∷ ys) = let a = rest_behind e p h left x (y ∷ ys) in let b = item_less h x in omega (arith, a, b)
 
@@ -90,3 +90,29 @@ module _ (e : Setting) (p : List Strike) where
       let whole : task_rest e p now ≡ items_rest e p now.hand (left ++ after_items a) = ap (items_rest e p now.hand) items_now in
       let more = before_more t.hand left x next.0 in let less = now_less w now.hand left a.left a.came turned.top in
       raised y n (item_rest e p t.hand x) (items_rest e p now.hand (after_items a)) (low_rest e p left) (task_rest e p t) (task_rest e p now) (omega (arith, all, more)) (omega (arith, whole, less)) (falls (after_items a) turned.items_are)
+
+  -- a good input lets the rest of the whole task fall
+  pub good_more : (h : Option BlockCells) (x : Item) (before now low total whole : ℕ) → low + before ≤ total → whole ≤ low + now → FallsGood e h x before now → FallsGood e h x total whole
+  good_more h (item.Compute c) before now low total whole below above falls = λ reads. let a = falls reads in omega (arith, a, below, above)
+  good_more h item.Credit before now low total whole below above falls = tt
+  good_more h (item.Explore x) before now low total whole below above falls = tt
+  good_more h (item.Close c) before now low total whole below above falls = tt
+  good_more h (item.Notify n) before now low total whole below above falls = tt
+  good_more h (item.Look k) before now low total whole below above falls = tt
+  good_more h (item.Owe o) before now low total whole below above falls = tt
+  good_more h (item.Recover r) before now low total whole below above falls = tt
+
+  pub left_good : (h now_h : Option BlockCells) (x : Item) (before : ℕ) (a : After) (others now left : List Item) → now ≡ others ++ after_items a → now ≡ others ++ left → FallsGood e h x before (after_rest e p now_h a) → FallsGood e h x before (items_rest e p now_h left)
+  left_good h now_h x before a others now left are is falls =
+      let same : after_items a ≡ left = same_behind others (after_items a) left (sym are ∙ is) in
+      subst (FallsGood e h x before) (sym (rest_as now_h a.left a.came) ∙ ap (items_rest e p now_h) same) falls
+
+  pub task_good : (g : TaskGraph) (v w : View) (t now : Task) (left : List Item) (x : Item) (s : Scratch) (told : Turn) → IsNext e.graph p (task_items t) left (Some x) → HasTurned g e v w x left now s told
+      → ((rest : List Item) → now.items.items ≡ left ++ rest → FallsGood e t.hand x (item_rest e p t.hand x) (items_rest e p now.hand rest)) → FallsGood e t.hand x (task_rest e p t) (task_rest e p now)
+  task_good g v w t now left x s told next turned falls =
+      let a = turned.after in
+      let items_now : task_items now ≡ left ++ after_items a = ap (λ o. begun_items o now.items.items) turned.not_begun ∙ turned.items_are in
+      let all : task_rest e p t ≡ items_rest e p t.hand (left ++ x ∷ next.0) = ap (items_rest e p t.hand) next.1 in
+      let whole : task_rest e p now ≡ items_rest e p now.hand (left ++ after_items a) = ap (items_rest e p now.hand) items_now in
+      let more = before_more t.hand left x next.0 in let less = now_less w now.hand left a.left a.came turned.top in
+      good_more t.hand x (item_rest e p t.hand x) (items_rest e p now.hand (after_items a)) (low_rest e p left) (task_rest e p t) (task_rest e p now) (omega (arith, all, more)) (omega (arith, whole, less)) (falls (after_items a) turned.items_are)

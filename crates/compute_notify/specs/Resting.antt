@@ -1,5 +1,5 @@
 -- How much of a task is left to do, as a number, and that each turn lets it fall or met one of some exceptions.
-use Rattle.std.specs.Prelude.{◌≡◌, ◌≢◌, ◌⊎◌, ℕ, ◌+◌, ◌-◌, ◌*◌, ◌<◌, ◌≤◌, Bool, false, cond, nat_lt, eqb, List, length, Option, Some, None}
+use Rattle.std.specs.Prelude.{◌≡◌, ◌≢◌, ◌⊎◌, ℕ, ◌+◌, ◌-◌, ◌*◌, ◌<◌, ◌≤◌, Bool, true, false, cond, nat_lt, eqb, List, [], ◌∷◌, ◌++◌, length, Option, Some, None}
 use Rattle.std.specs.Prelude.{count_ones}
 use Rattle.graph_model.specs.Plans.{hits}
 use Rattle.graph_model.specs.declared.key.Key.{Key}
@@ -8,8 +8,9 @@ use Rattle.graph_model.specs.declared.plan.Point.TheVariants as point
 use Rattle.graph_model.specs.declared.plan.Strike.{Strike}
 use Rattle.graph_model.specs.declared.record.Cause.{Cause}
 use Rattle.core_state.specs.Effects.{closing_of, is_good}
-use Rattle.core_state.specs.Graph.{Setting}
+use Rattle.core_state.specs.Graph.{Graph, Setting}
 use Rattle.core_state.specs.Events.{Event, Event as event}
+use Rattle.core_state.specs.Packed.{notify_word}
 use Rattle.core_state.specs.Words.{mark_of, replacing}
 use Rattle.core_state.specs.declared.answers.Closing.TheVariants as closing
 use Rattle.core_state.specs.declared.block.BlockCells.{BlockCells}
@@ -17,7 +18,9 @@ use Rattle.core_state.specs.declared.job.Job.{Job}
 use Rattle.core_state.specs.declared.words.NotifyWord.{NotifyWord}
 use Rattle.recovery.specs.Resting.{owe_rest, ports_rest, recover_rest}
 use Rattle.compute_notify.specs.Items.{job_item}
+use Rattle.compute_notify.specs.Striking.{seen_word, strike_left}
 use Rattle.compute_notify.specs.declared.close.Close.{Close}
+use Rattle.compute_notify.specs.declared.compute.Compute.{Compute}
 use Rattle.compute_notify.specs.declared.compute.Phase.{Phase}
 use Rattle.compute_notify.specs.declared.compute.Phase.TheVariants as phase
 use Rattle.compute_notify.specs.declared.duty.Duty.{Duty}
@@ -157,3 +160,28 @@ pub data Excuses (e : Setting) (p : List Strike) : Event → ℕ → ℕ → Typ
 -- the rest falls, or the step is excused and it rises by no more than that
 abbrev pub LetsFall : Setting → List Strike → Event → ℕ → ℕ → ℕ → Type 0
 LetsFall e p x n before now = (now + step_cost x ≤ before) ⊎ ((rise : ℕ) × Excuses e p x n rise × (now ≤ before + rise))
+
+-- An input of a computing is read next, and the block in hand holds it.
+pub record ReadsGood (e : Setting) (h : Option BlockCells) (c : Compute) : Type 0 where
+  pub input : ℕ
+  pub was : BlockCells
+  pub reading : c.phase ≡ phase.Reading input
+  pub is_input : input < e.graph.inputs c.duty.key.0
+  pub in_hand : h ≡ Some was
+  pub good : is_good (e.graph.version (e.graph.pred c.duty.key.0 input).task) was ≡ true
+
+-- then the rest falls
+abbrev pub FallsGood : Setting → Option BlockCells → Item → ℕ → ℕ → Type 0
+FallsGood e h (item.Compute c) before now = ReadsGood e h c → now + 1 ≤ before
+FallsGood e h _ before now = Unit {0}
+
+-- a closing that makes no strike and finds its word moved has nothing above it and goes on with the word that it found
+abbrev pub LooksAgain : Graph → List Strike → ℕ → Item → List Item → Type 0
+LooksAgain g p n (item.Close c) left = strike_left g p (item.Close c) ≡ None → (x : NotifyWord) → closing_of c.duty.life (notify_word (seen_word c.duty.life c.seen)) n ≡ closing.Moved x → left ≡ item.Close (record c { seen = Some x }) ∷ []
+LooksAgain g p n _ left = Unit {0}
+
+-- the others stay, with something above them: that closing alone, where it found its word moved
+pub record LeavesAbove (g : Graph) (p : List Strike) (n : ℕ) (x : Item) (others now : List Item) : Type 0 where
+  pub above : List Item
+  pub items_are : now ≡ others ++ above
+  pub again : LooksAgain g p n x above

@@ -1,11 +1,12 @@
 ghost use Rattle.std.specs.Prelude.{None, Some, [], false, ◌<◌, ◌≡◌, ◌≤◌, true};
 ghost use Rattle.compute_notify.specs.Eventing.{close_event, item_event};
 ghost use Rattle.compute_notify.specs.Items.{Goes, Stands, close_from, is_over, item_lines};
-ghost use Rattle.compute_notify.specs.Resting.{LetsFall, after_rest, item_rest};
+ghost use Rattle.compute_notify.specs.Resting.{LetsFall, LooksAgain, after_rest, item_rest};
 ghost use Rattle.compute_notify.specs.Rooms.{is_plain};
 ghost use Rattle.compute_notify.specs.Running.{Runs};
 ghost use Rattle.compute_notify.specs.Stepping.{HasStepped};
 ghost use Rattle.compute_notify.specs.Striking.{seen_word, strike_event, strike_left};
+ghost use Rattle.compute_notify.specs.Tasks.{after_items};
 ghost use Rattle.compute_notify.specs.Working.{AfterHand, FitsTop};
 ghost use Rattle.core_state.specs.Asked.{InEachGraphOf, IsCoreKey};
 
@@ -90,6 +91,7 @@ impl Close {
         ensures top { AfterHand (T.setting steps.old) (T.view steps.new) hand.new result }
         ensures step { HasStepped T.setting T.view T.KeyWords.made T.KeyWords.spare T.KeyWords.last T.shown T.happened T.lender T.others (λ v. v) (item_event (T.setting steps.old) (T.view steps.old) terms.now.plan.now hand.old hand.new (Item.Close self)) steps.old steps.new }
         ensures rest { LetsFall (T.setting steps.old) terms.now.plan.now (item_event (T.setting steps.old) (T.view steps.old) terms.now.plan.now hand.old hand.new (Item.Close self)) (T.shown steps.new).1 (item_rest (T.setting steps.old) terms.now.plan.now hand.old (Item.Close self)) (after_rest (T.setting steps.old) terms.now.plan.now hand.new result) }
+        ensures again { LooksAgain (T.setting steps.old).graph terms.now.plan.now (T.shown steps.new).1 (Item.Close self) (after_items result) }
     {
         match self.strike_left(terms) {
             Some(next) => self.strike(steps, terms, next, hand),
@@ -148,6 +150,7 @@ impl Close {
         ensures hand { (T.view steps.new).hands ≡ [] }
         ensures step { HasStepped T.setting T.view T.KeyWords.made T.KeyWords.spare T.KeyWords.last T.shown T.happened T.lender T.others (λ v. v) (close_event (T.view steps.old) self) steps.old steps.new }
         ensures rest { LetsFall (T.setting steps.old) terms.now.plan.now (close_event (T.view steps.old) self) (T.shown steps.new).1 (item_rest (T.setting steps.old) terms.now.plan.now None (Item.Close self)) (after_rest (T.setting steps.old) terms.now.plan.now None result) }
+        ensures again { LooksAgain (T.setting steps.old).graph terms.now.plan.now (T.shown steps.new).1 (Item.Close self) (after_items result) }
     {
         let Duty { row, key, life } = self.duty;
         match steps.close(row, life, self.word, self.guess()) {

@@ -1,7 +1,7 @@
 ghost use Rattle.std.specs.Prelude.{None, Some, [], length, take, ℕ, ◌+◌, ◌<◌, ◌≡◌, ◌≤◌, false};
 ghost use Rattle.compute_notify.specs.Eventing.{calls_after, compute_event, prepared, writing_event};
 ghost use Rattle.compute_notify.specs.Items.{Goes, Stands, item_lines, is_spent};
-ghost use Rattle.compute_notify.specs.Resting.{LetsFall, after_rest, item_rest};
+ghost use Rattle.compute_notify.specs.Resting.{FallsGood, LetsFall, after_rest, item_rest};
 ghost use Rattle.compute_notify.specs.Rooms.{AfterScratch, FitsScratch, HasRoom, IsReady};
 ghost use Rattle.compute_notify.specs.Running.{Makes, Runs, SameKernel};
 ghost use Rattle.compute_notify.specs.Stepping.{HasStepped};
@@ -88,6 +88,7 @@ impl Compute {
         ensures kernel_room { Ke.spare kernel.old ≤ Ke.spare kernel.new + 1 }
         ensures step { HasStepped T.setting T.view T.KeyWords.made T.KeyWords.spare T.KeyWords.last T.shown T.happened T.lender T.others (prepared (T.setting steps.old).graph self) (compute_event (T.setting steps.old) (T.view steps.old) terms.now.plan.now hand.old hand.new self) steps.old steps.new }
         ensures rest { LetsFall (T.setting steps.old) terms.now.plan.now (compute_event (T.setting steps.old) (T.view steps.old) terms.now.plan.now hand.old hand.new self) (T.shown steps.new).1 (item_rest (T.setting steps.old) terms.now.plan.now hand.old (Item.Compute self)) (after_rest (T.setting steps.old) terms.now.plan.now hand.new result) }
+        ensures good { FallsGood (T.setting steps.old) hand.old (Item.Compute self) (item_rest (T.setting steps.old) terms.now.plan.now hand.old (Item.Compute self)) (after_rest (T.setting steps.old) terms.now.plan.now hand.new result) }
     {
         match self.phase {
             Phase::Ready { made } => self.ready(steps, terms, hand, scratch, made),
@@ -217,6 +218,7 @@ impl Compute {
         ensures scratch { AfterScratch (T.setting steps.old) (G.graph terms.now.graph.now) scratch.new result }
         ensures step { HasStepped T.setting T.view T.KeyWords.made T.KeyWords.spare T.KeyWords.last T.shown T.happened T.lender T.others (λ v. v) (compute_event (T.setting steps.old) (T.view steps.old) terms.now.plan.now hand.old hand.new self) steps.old steps.new }
         ensures rest { LetsFall (T.setting steps.old) terms.now.plan.now (compute_event (T.setting steps.old) (T.view steps.old) terms.now.plan.now hand.old hand.new self) (T.shown steps.new).1 (item_rest (T.setting steps.old) terms.now.plan.now hand.old (Item.Compute self)) (after_rest (T.setting steps.old) terms.now.plan.now hand.new result) }
+        ensures good { FallsGood (T.setting steps.old) hand.old (Item.Compute self) (item_rest (T.setting steps.old) terms.now.plan.now hand.old (Item.Compute self)) (after_rest (T.setting steps.old) terms.now.plan.now hand.new result) }
     {
         let graph = Rooted::of(terms.graph);
         let place = graph.block(graph.pred(self.duty.key, input).key);

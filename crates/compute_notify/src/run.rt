@@ -18,7 +18,11 @@ pub struct Run<'a, G, Ke> {
 }
 
 impl<G, Ke> Drop for Run<'_, G, Ke> {
-    fn drop(self) {
+    fn drop(self)
+        ensures kernel { self.exit.1.0.now ≡ self.entry.kernel.now }
+        ensures scratch { self.exit.1.1.1.1.0.now ≡ self.entry.scratch.now }
+        ensures hints { self.exit.1.1.1.1.1.0.now ≡ self.entry.hints.now }
+    {
         let Run {
             graph: _,
             kernel: _,

@@ -2,7 +2,7 @@
 ghost use Rattle.std.specs.Prelude.{List, None, OnOk, Some, [], false, length, not, true, vec_capacity, ◌++◌, ◌+◌, ◌≡◌, ◌≢◌, ◌≤◌};
 ghost use Rattle.compute_notify.specs.Eventing.{item_calls, item_event, item_hints, item_prepared, steps_on};
 ghost use Rattle.compute_notify.specs.Items.{Goes, ItemSpends, Stands, is_over, is_spent, item_lines, job_item};
-ghost use Rattle.compute_notify.specs.Resting.{LetsFall, after_rest, item_rest};
+ghost use Rattle.compute_notify.specs.Resting.{FallsGood, LeavesAbove, LetsFall, LooksAgain, after_rest, item_rest};
 ghost use Rattle.compute_notify.specs.Rooms.{AfterScratch, FitsScratch};
 ghost use Rattle.compute_notify.specs.Running.{Makes, Runs, SameKernel};
 ghost use Rattle.compute_notify.specs.Stepping.{HasStepped};
@@ -157,6 +157,8 @@ fn turn_item<T: Steps, G: TaskGraph, Ke: Kernel>(
     ensures knows { Remembers (T.view steps.old) (T.view steps.new) }
     ensures step { steps_on item ≡ true → HasStepped T.setting T.view T.KeyWords.made T.KeyWords.spare T.KeyWords.last T.shown T.happened T.lender T.others (item_prepared (T.setting steps.old).graph item) (item_event (T.setting steps.old) (T.view steps.old) terms.now.plan.now hand.old hand.new item) steps.old steps.new }
     ensures rest { steps_on item ≡ true → LetsFall (T.setting steps.old) terms.now.plan.now (item_event (T.setting steps.old) (T.view steps.old) terms.now.plan.now hand.old hand.new item) (T.shown steps.new).1 (item_rest (T.setting steps.old) terms.now.plan.now hand.old item) (after_rest (T.setting steps.old) terms.now.plan.now hand.new result) }
+    ensures good { FallsGood (T.setting steps.old) hand.old item (item_rest (T.setting steps.old) terms.now.plan.now hand.old item) (after_rest (T.setting steps.old) terms.now.plan.now hand.new result) }
+    ensures again { LooksAgain (T.setting steps.old).graph terms.now.plan.now (T.shown steps.new).1 item (after_items result) }
 {
     match item {
         Item::Credit => give_up(steps, terms),
@@ -284,6 +286,8 @@ impl Task {
         ensures knows { Remembers (T.view steps.old) (T.view steps.new) }
         ensures step { steps_on item ≡ true → HasStepped T.setting T.view T.KeyWords.made T.KeyWords.spare T.KeyWords.last T.shown T.happened T.lender T.others (item_prepared (T.setting steps.old).graph item) (item_event (T.setting steps.old) (T.view steps.old) run.old.plan.now self.old.hand self.new.hand item) steps.old steps.new }
         ensures rest { steps_on item ≡ true → (left : List Item) → self.new.items.items ≡ self.old.items.items ++ left → LetsFall (T.setting steps.old) run.old.plan.now (item_event (T.setting steps.old) (T.view steps.old) run.old.plan.now self.old.hand self.new.hand item) (T.shown steps.new).1 (item_rest (T.setting steps.old) run.old.plan.now self.old.hand item) (items_rest (T.setting steps.old) run.old.plan.now self.new.hand left) }
+        ensures good { (left : List Item) → self.new.items.items ≡ self.old.items.items ++ left → FallsGood (T.setting steps.old) self.old.hand item (item_rest (T.setting steps.old) run.old.plan.now self.old.hand item) (items_rest (T.setting steps.old) run.old.plan.now self.new.hand left) }
+        ensures again { LeavesAbove (T.setting steps.old).graph run.old.plan.now (T.shown steps.new).1 item self.old.items.items self.new.items.items }
         ensures same_graph { run.new.graph.now ≡ run.old.graph.now }
         ensures same_plan { run.new.plan.now ≡ run.old.plan.now }
         ensures same_lives { run.new.lives ≡ run.old.lives }
@@ -337,6 +341,8 @@ impl Task {
         ensures still { ends_run result ≡ true → steps.new ≡ steps.old }
         ensures step { (left : List Item) (x : Item) → IsNext (T.setting steps.old).graph run.old.plan.now (task_items self.old) left (Some x) → ends_run result ≡ false → HasStepped T.setting T.view T.KeyWords.made T.KeyWords.spare T.KeyWords.last T.shown T.happened T.lender T.others (item_prepared (T.setting steps.old).graph x) (item_event (T.setting steps.old) (T.view steps.old) run.old.plan.now self.old.hand self.new.hand x) steps.old steps.new }
         ensures rest { (left : List Item) (x : Item) → IsNext (T.setting steps.old).graph run.old.plan.now (task_items self.old) left (Some x) → ends_run result ≡ false → LetsFall (T.setting steps.old) run.old.plan.now (item_event (T.setting steps.old) (T.view steps.old) run.old.plan.now self.old.hand self.new.hand x) (T.shown steps.new).1 (task_rest (T.setting steps.old) run.old.plan.now self.old) (task_rest (T.setting steps.old) run.old.plan.now self.new) }
+        ensures good { (left : List Item) (x : Item) → IsNext (T.setting steps.old).graph run.old.plan.now (task_items self.old) left (Some x) → FallsGood (T.setting steps.old) self.old.hand x (task_rest (T.setting steps.old) run.old.plan.now self.old) (task_rest (T.setting steps.old) run.old.plan.now self.new) }
+        ensures again { (left : List Item) (x : Item) → IsNext (T.setting steps.old).graph run.old.plan.now (task_items self.old) left (Some x) → LeavesAbove (T.setting steps.old).graph run.old.plan.now (T.shown steps.new).1 x left (task_items self.new) }
         ensures same_graph { run.new.graph.now ≡ run.old.graph.now }
         ensures same_plan { run.new.plan.now ≡ run.old.plan.now }
         ensures same_lives { run.new.lives ≡ run.old.lives }

@@ -29,7 +29,7 @@ use Rattle.recovery.specs.Memory.{Remembers}
 use Rattle.recovery.proofs.Knowing.{key_stays, remembers_apart}
 use Rattle.compute_notify.specs.Eventing.{compute_event, reading_event, writing_event}
 use Rattle.compute_notify.specs.Items.{Goes, Stands, item_lines}
-use Rattle.compute_notify.specs.Resting.{Excuses, LetsFall, after_rest, closing_rest, item_rest, phase_rest, suspect_rest}
+use Rattle.compute_notify.specs.Resting.{Excuses, LetsFall, ReadsGood, after_rest, closing_rest, item_rest, phase_rest, suspect_rest}
 use Rattle.compute_notify.specs.Resting.Excuses.{bad, taken}
 use Rattle.compute_notify.specs.Running.{Runs}
 use Rattle.compute_notify.specs.Working.{AfterHand, ComputeHand, FitsTop, HasBlock}
@@ -62,6 +62,14 @@ never_busy version x told = by (is_good version x) told
     by : (b : Bool) → read.Busy ≡ cond b read.Good (read.Bad (found_in version x)) → ⊥
     by true z = absurd cc
     by false z = absurd cc
+
+-- what is read as bad was not good
+pub not_good : (e : Setting) (h : Option BlockCells) (c : Compute) (input version : ℕ) (x : BlockCells) → c.phase ≡ phase.Reading input → h ≡ Some x → version ≡ e.graph.version (e.graph.pred c.duty.key.0 input).task → is_good version x ≡ false → ReadsGood e h c → ⊥
+not_good e h c input version x reading full of_version poor reads =
+    let at : phase.Reading reads.input ≡ phase.Reading input = sym reads.reading ∙ reading in let same : reads.input ≡ input = cc in
+    let has : Some reads.was ≡ Some x = sym reads.in_hand ∙ full in let held : reads.was ≡ x = cc in
+    let good : is_good version x ≡ true = ap (λ u. is_good u x) of_version ∙ ap (λ i. is_good (e.graph.version (e.graph.pred c.duty.key.0 i).task) x) (sym same) ∙ ap (is_good (e.graph.version (e.graph.pred c.duty.key.0 reads.input).task)) (sym held) ∙ reads.good in
+    let no : true ≡ false = sym good ∙ poor in cc
 
 -- the computing, at this input
 abbrev pub at_input : Compute → ℕ → After

@@ -2,7 +2,7 @@ use Rattle.std.proofs.Common.{◌≡◌, ℕ, false, not, ap, refl, subst, sym, 
 use Rattle.recovery.specs.Recovering.{is_last, is_over as is_passed, makes_step}
 use Rattle.compute_notify.specs.Eventing.{item_calls, item_event, item_hints, item_prepared, steps_on}
 use Rattle.compute_notify.specs.Items.{Goes, ItemSpends, Stands, is_over, is_spent, item_lines}
-use Rattle.compute_notify.specs.Resting.{LetsFall, after_rest, item_rest}
+use Rattle.compute_notify.specs.Resting.{FallsGood, LetsFall, LooksAgain, after_rest, item_rest}
 use Rattle.compute_notify.specs.Rooms.{FitsScratch, is_bare}
 use Rattle.compute_notify.specs.Stepping.{HasStepped}
 use Rattle.compute_notify.specs.Tasks.{after_items}
@@ -416,3 +416,67 @@ replace-requires-clause-stands g c κs within = let e = g.T.Steps.setting c.args
 
 pub replace-requires-clause-left : goal.replace-requires-clause-left
 replace-requires-clause-left g c κs within = subst (λ x. is_over (g.T.Steps.setting c.args.steps.now).graph c.args.terms.now.plan.now x ≡ false) c.in-Recover.is c.requires.left
+
+pub returns-in-Credit-clause-good : goal.returns-in-Credit-clause-good
+returns-in-Credit-clause-good g c = let e = g.T.Steps.setting c.args.steps.now in let p = c.args.terms.now.plan.now in let h = c.args.hand.now in
+    subst (λ x. FallsGood e h x (item_rest e p h c.args.item) (after_rest e p h c.give_up.result)) (sym c.in-Credit.is) tt
+
+pub returns-in-Credit-clause-again : goal.returns-in-Credit-clause-again
+returns-in-Credit-clause-again g c = let e = g.T.Steps.setting c.args.steps.now in let p = c.args.terms.now.plan.now in let n = (g.T.Steps.shown c.give_up.new.steps).1 in
+    subst (λ x. LooksAgain e.graph p n x (after_items c.give_up.result)) (sym c.in-Credit.is) tt
+
+pub returns-in-Explore-clause-good : goal.returns-in-Explore-clause-good
+returns-in-Explore-clause-good g c = let e = g.T.Steps.setting c.args.steps.now in let p = c.args.terms.now.plan.now in let h = c.args.hand.now in
+    subst (λ x. FallsGood e h x (item_rest e p h c.args.item) (after_rest e p c.turn.new.hand c.turn.result)) (sym c.in-Explore.is) tt
+
+pub returns-in-Explore-clause-again : goal.returns-in-Explore-clause-again
+returns-in-Explore-clause-again g c = let e = g.T.Steps.setting c.args.steps.now in let p = c.args.terms.now.plan.now in let n = (g.T.Steps.shown c.turn.new.steps).1 in
+    subst (λ x. LooksAgain e.graph p n x (after_items c.turn.result)) (sym c.in-Explore.is) tt
+
+pub returns-in-Compute-clause-good : goal.returns-in-Compute-clause-good
+returns-in-Compute-clause-good g c = let e = g.T.Steps.setting c.args.steps.now in let p = c.args.terms.now.plan.now in let h = c.args.hand.now in
+    subst (λ x. FallsGood e h x (item_rest e p h x) (after_rest e p c.turn-in-Compute.new.hand c.turn-in-Compute.result)) (sym c.in-Compute.is) c.turn-in-Compute.ensures.good
+
+pub returns-in-Compute-clause-again : goal.returns-in-Compute-clause-again
+returns-in-Compute-clause-again g c = let e = g.T.Steps.setting c.args.steps.now in let p = c.args.terms.now.plan.now in let n = (g.T.Steps.shown c.turn-in-Compute.new.steps).1 in
+    subst (λ x. LooksAgain e.graph p n x (after_items c.turn-in-Compute.result)) (sym c.in-Compute.is) tt
+
+pub returns-in-Close-clause-good : goal.returns-in-Close-clause-good
+returns-in-Close-clause-good g c = let e = g.T.Steps.setting c.args.steps.now in let p = c.args.terms.now.plan.now in let h = c.args.hand.now in
+    subst (λ x. FallsGood e h x (item_rest e p h c.args.item) (after_rest e p c.turn-in-Close.new.hand c.turn-in-Close.result)) (sym c.in-Close.is) tt
+
+pub returns-in-Close-clause-again : goal.returns-in-Close-clause-again
+returns-in-Close-clause-again g c = let e = g.T.Steps.setting c.args.steps.now in let p = c.args.terms.now.plan.now in let n = (g.T.Steps.shown c.turn-in-Close.new.steps).1 in
+    subst (λ x. LooksAgain e.graph p n x (after_items c.turn-in-Close.result)) (sym c.in-Close.is) c.turn-in-Close.ensures.again
+
+pub returns-in-Notify-clause-good : goal.returns-in-Notify-clause-good
+returns-in-Notify-clause-good g c = let e = g.T.Steps.setting c.args.steps.now in let p = c.args.terms.now.plan.now in let h = c.args.hand.now in
+    subst (λ x. FallsGood e h x (item_rest e p h c.args.item) (after_rest e p h c.turn-in-Notify.result)) (sym c.in-Notify.is) tt
+
+pub returns-in-Notify-clause-again : goal.returns-in-Notify-clause-again
+returns-in-Notify-clause-again g c = let e = g.T.Steps.setting c.args.steps.now in let p = c.args.terms.now.plan.now in let n = (g.T.Steps.shown c.turn-in-Notify.new.steps).1 in
+    subst (λ x. LooksAgain e.graph p n x (after_items c.turn-in-Notify.result)) (sym c.in-Notify.is) tt
+
+pub returns-in-Look-clause-good : goal.returns-in-Look-clause-good
+returns-in-Look-clause-good g c = let e = g.T.Steps.setting c.args.steps.now in let p = c.args.terms.now.plan.now in let h = c.args.hand.now in
+    subst (λ x. FallsGood e h x (item_rest e p h c.args.item) (after_rest e p h c.turn-in-Look.result)) (sym c.in-Look.is) tt
+
+pub returns-in-Look-clause-again : goal.returns-in-Look-clause-again
+returns-in-Look-clause-again g c = let e = g.T.Steps.setting c.args.steps.now in let p = c.args.terms.now.plan.now in let n = (g.T.Steps.shown c.turn-in-Look.new.steps).1 in
+    subst (λ x. LooksAgain e.graph p n x (after_items c.turn-in-Look.result)) (sym c.in-Look.is) tt
+
+pub returns-in-Owe-clause-good : goal.returns-in-Owe-clause-good
+returns-in-Owe-clause-good g c = let e = g.T.Steps.setting c.args.steps.now in let p = c.args.terms.now.plan.now in let h = c.args.hand.now in
+    subst (λ x. FallsGood e h x (item_rest e p h c.args.item) (after_rest e p h c.pay.result)) (sym c.in-Owe.is) tt
+
+pub returns-in-Owe-clause-again : goal.returns-in-Owe-clause-again
+returns-in-Owe-clause-again g c = let e = g.T.Steps.setting c.args.steps.now in let p = c.args.terms.now.plan.now in let n = (g.T.Steps.shown c.pay.new.steps).1 in
+    subst (λ x. LooksAgain e.graph p n x (after_items c.pay.result)) (sym c.in-Owe.is) tt
+
+pub returns-in-Recover-clause-good : goal.returns-in-Recover-clause-good
+returns-in-Recover-clause-good g c = let e = g.T.Steps.setting c.args.steps.now in let p = c.args.terms.now.plan.now in let h = c.args.hand.now in
+    subst (λ x. FallsGood e h x (item_rest e p h c.args.item) (after_rest e p h c.replace.result)) (sym c.in-Recover.is) tt
+
+pub returns-in-Recover-clause-again : goal.returns-in-Recover-clause-again
+returns-in-Recover-clause-again g c = let e = g.T.Steps.setting c.args.steps.now in let p = c.args.terms.now.plan.now in let n = (g.T.Steps.shown c.replace.new.steps).1 in
+    subst (λ x. LooksAgain e.graph p n x (after_items c.replace.result)) (sym c.in-Recover.is) tt

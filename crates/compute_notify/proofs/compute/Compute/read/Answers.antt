@@ -9,7 +9,7 @@ use Rattle.compute_notify.specs.declared.item.Item.TheVariants as item
 use Rattle.compute_notify.specs.Items.{is_spent}
 use Rattle.compute_notify.specs.declared.item.After.{After}
 use Rattle.compute_notify.proofs.Computing.Lines.{took_hand}
-use Rattle.compute_notify.proofs.Computing.Reads.{bad_falls, bad_goes, bad_was, good_goes, good_was, is_place, may_take, next_read, none_taken, take_falls, take_goes, took_top}
+use Rattle.compute_notify.proofs.Computing.Reads.{bad_falls, bad_goes, bad_was, good_goes, good_was, is_place, may_take, next_read, none_taken, not_good, take_falls, take_goes, took_top}
 use Rattle.compute_notify.proofs.Computing.Rooms.{cells_room, holds_in, input_inside, kept_values, list_room, look_scratch, pred_key, reading_scratch, room_kept, some_version, value_of}
 use Rattle.compute_notify.proofs.compute.Compute.read.Goals as goal
 
@@ -154,6 +154,15 @@ returns-in-Bad-clause-rest g c =
     let poor = bad_was place.version c.in-Some.taken c.in-Bad.found (sym c.in-Bad.is ∙ c.end_input.ensures.told) in
     bad_falls _ e (g.T.Steps.view c.args.steps.now) c.args.self c.args.input _ _ runs c.requires.stands c.requires.phase c.requires.input (g.T.Steps.shown c.end_input.new.steps).1 place.block c.args.hand.now c.take.new.self c.in-Some.taken c.stays.result (sym c.take.ensures.value ∙ c.in-Some.is) c.take.ensures.after here place.version (cause.Block place.block place.version c.in-Bad.found)
     (c.stays.ensures ∙ ap (λ x. record { left = Some (item.Look x); came = came.Nothing }) c.of.ensures) of_version poor.0
+
+pub returns-in-Bad-clause-good : goal.returns-in-Bad-clause-good
+returns-in-Bad-clause-good g c good =
+    let e = g.T.Steps.setting c.args.steps.now in let k = c.args.self.duty.key.0 in let runs = c.requires.runs in let place = c.block-place.result in
+    let asked = subst (λ h. IsGraphOf (g.G.TaskGraph.graph h) runs.serves.outcome e.graph) (sym c.of-graph.ensures) runs.serves.graph in
+    let pred : e.graph.pred k c.args.input ≡ record { task = c.pred.result.key.0; port = c.pred.result.port } = c.pred.ensures.pred runs.serves.outcome e.graph asked in
+    let of_version : place.version ≡ e.graph.version (e.graph.pred k c.args.input).task = c.block-place.ensures.version runs.serves.outcome e.graph asked ∙ ap (λ (x : Edge). e.graph.version x.task) (sym pred) in
+    let poor = bad_was place.version c.in-Some.taken c.in-Bad.found (sym c.in-Bad.is ∙ c.end_input.ensures.told) in
+    absurd (not_good e c.args.hand.now c.args.self c.args.input place.version c.in-Some.taken c.requires.phase (sym c.take.ensures.value ∙ c.in-Some.is) of_version poor.0 good)
 
 pub returns-in_default-clause-spent : goal.returns-in_default-clause-spent
 returns-in_default-clause-spent g c = ap (λ (a : After). is_spent a.came) c.on.ensures

@@ -1,11 +1,11 @@
-use Rattle.std.proofs.Common.{◌≡◌, Bool, None, Some, false, true, ap, sym, subst, ◌∙◌, not, refl}
+use Rattle.std.proofs.Common.{◌≡◌, ◌++◌, Bool, None, Some, false, true, ap, sym, subst, ◌∙◌, not, refl}
 use Rattle.compute_notify.specs.Eventing.{item_event, item_hints, item_prepared, steps_on}
-use Rattle.compute_notify.specs.Resting.{LetsFall, item_rest}
+use Rattle.compute_notify.specs.Resting.{FallsGood, LetsFall, LooksAgain, item_rest}
 use Rattle.compute_notify.specs.Stepping.{HasStepped}
-use Rattle.compute_notify.specs.Tasks.{AllMayBeOver, IsNext, items_rest, task_items, task_rest}
+use Rattle.compute_notify.specs.Tasks.{AllMayBeOver, IsNext, begun_items, items_rest, task_items, task_rest}
 use Rattle.compute_notify.specs.Working.{FitsTop}
-use Rattle.compute_notify.proofs.Stacking.{next_once}
-use Rattle.compute_notify.proofs.TaskRests.{task_falls}
+use Rattle.compute_notify.proofs.Stacking.{next_alone, next_once}
+use Rattle.compute_notify.proofs.TaskRests.{task_falls, task_good}
 use Rattle.compute_notify.proofs.TaskSteps.{turn_holds, turn_notes, turn_tells}
 use Rattle.compute_notify.proofs.Turned.{all_may, next_scratch, next_stands, next_top, some_next, turned_scratch}
 use Rattle.compute_notify.proofs.task.Task.turn.Goals as goal
@@ -79,6 +79,24 @@ returns-in-Some-clause-rest g c others y is goes = let s = c.args.steps.now in l
     (task_falls e p t v (g.T.Steps.view u) (item_event e v p task.hand now.hand x) n task now left x c.turn_next.new.run.scratch.now c.turn_next.result next c.turn_next.ensures.turned
     (λ rest are. subst (λ h. LetsFall e p (item_event e v p h now.hand x) n (item_rest e p h x) (items_rest e p now.hand rest)) c.begin.ensures.hand (falls rest are)))
 
+pub returns-in-Some-clause-good : goal.returns-in-Some-clause-good
+returns-in-Some-clause-good g c others y is = let s = c.args.steps.now in let e = g.T.Steps.setting s in let v = g.T.Steps.view s in let t = g.G.TaskGraph.graph c.args.run.now.graph.now in let p = c.args.run.now.plan.now in let runs = c.requires.runs in let task = c.args.self.now in let left = c.next.new.items.items in let x = c.in-Some.item in let now = c.turn_next.new.self in let u = c.turn_next.new.steps in
+    let next : IsNext e.graph p (task_items task) left (Some x) = subst (λ xs. IsNext e.graph p xs left (Some x)) c.begin.ensures.items (c.in-Some.ensures.next runs.serves.outcome e.graph runs.serves.graph) in
+    let same : x ≡ y = next_once e.graph p left others x y next.0 is.0 next.2 is.2 next.3 is.3 (sym next.1 ∙ is.1) in
+    subst (λ z. FallsGood e task.hand z (task_rest e p task) (task_rest e p now)) same
+    (task_good e p t v (g.T.Steps.view u) task now left x c.turn_next.new.run.scratch.now c.turn_next.result next c.turn_next.ensures.turned
+    (λ rest are. subst (λ h. FallsGood e h x (item_rest e p h x) (items_rest e p now.hand rest)) c.begin.ensures.hand (c.turn_next.ensures.good rest are)))
+
+pub returns-in-Some-clause-again : goal.returns-in-Some-clause-again
+returns-in-Some-clause-again g c others y is = let e = g.T.Steps.setting c.args.steps.now in let p = c.args.run.now.plan.now in let runs = c.requires.runs in let task = c.args.self.now in let left = c.next.new.items.items in let x = c.in-Some.item in let now = c.turn_next.new.self in let n = (g.T.Steps.shown c.turn_next.new.steps).1 in
+    let next : IsNext e.graph p (task_items task) left (Some x) = subst (λ xs. IsNext e.graph p xs left (Some x)) c.begin.ensures.items (c.in-Some.ensures.next runs.serves.outcome e.graph runs.serves.graph) in
+    let same = next_alone e.graph p left others x y next.0 is.0 next.2 is.2 next.3 is.3 (sym next.1 ∙ is.1) in let more = c.turn_next.ensures.again in
+    record {
+      above = more.above;
+      items_are = ap (λ o. begun_items o now.items.items) c.turn_next.ensures.turned.not_begun ∙ more.items_are ∙ ap (λ xs. xs ++ more.above) same.0;
+      again = subst (λ z. LooksAgain e.graph p n z more.above) same.1 more.again;
+    }
+
 pub returns-in-None-clause-holds : goal.returns-in-None-clause-holds
 returns-in-None-clause-holds g c = let e = g.T.Steps.setting c.args.steps.now in let p = c.args.run.now.plan.now in let runs = c.requires.runs in let task = c.args.self.now in let left = c.next.new.items.items in
     absurd (some_next e.graph p (task_items task) left c.requires.holds.bottom c.requires.some (subst (λ xs. IsNext e.graph p xs left None) c.begin.ensures.items (c.in-None.ensures.next runs.serves.outcome e.graph runs.serves.graph)))
@@ -105,4 +123,12 @@ returns-in-None-clause-step g c others y is goes = let e = g.T.Steps.setting c.a
 
 pub returns-in-None-clause-rest : goal.returns-in-None-clause-rest
 returns-in-None-clause-rest g c others y is goes = let e = g.T.Steps.setting c.args.steps.now in let p = c.args.run.now.plan.now in let runs = c.requires.runs in let task = c.args.self.now in let left = c.next.new.items.items in
+    absurd (some_next e.graph p (task_items task) left c.requires.holds.bottom c.requires.some (subst (λ xs. IsNext e.graph p xs left None) c.begin.ensures.items (c.in-None.ensures.next runs.serves.outcome e.graph runs.serves.graph)))
+
+pub returns-in-None-clause-good : goal.returns-in-None-clause-good
+returns-in-None-clause-good g c others y is = let e = g.T.Steps.setting c.args.steps.now in let p = c.args.run.now.plan.now in let runs = c.requires.runs in let task = c.args.self.now in let left = c.next.new.items.items in
+    absurd (some_next e.graph p (task_items task) left c.requires.holds.bottom c.requires.some (subst (λ xs. IsNext e.graph p xs left None) c.begin.ensures.items (c.in-None.ensures.next runs.serves.outcome e.graph runs.serves.graph)))
+
+pub returns-in-None-clause-again : goal.returns-in-None-clause-again
+returns-in-None-clause-again g c others y is = let e = g.T.Steps.setting c.args.steps.now in let p = c.args.run.now.plan.now in let runs = c.requires.runs in let task = c.args.self.now in let left = c.next.new.items.items in
     absurd (some_next e.graph p (task_items task) left c.requires.holds.bottom c.requires.some (subst (λ xs. IsNext e.graph p xs left None) c.begin.ensures.items (c.in-None.ensures.next runs.serves.outcome e.graph runs.serves.graph)))
