@@ -22,7 +22,7 @@ count_more q [] x = let a = bump_is (q x) 0 in omega (arith, a)
 count_more q (y ∷ xs) x = let a = count_more q xs x in let b = bump_is (q y) (count q (xs ++ x ∷ [])) in let c = bump_is (q y) (count q xs) in omega (arith, a, b, c)
 
 -- a store has one record more, where it is kept
-store_more : (root : ℕ) (q : Record → Bool) (y : Option Record) (s : Stored) → count q (kept_store root y s).records ≡ count q s.records + count (λ x. q x && is_kept root x) (as_list y)
+pub store_more : (root : ℕ) (q : Record → Bool) (y : Option Record) (s : Stored) → count q (kept_store root y s).records ≡ count q s.records + count (λ x. q x && is_kept root x) (as_list y)
 store_more root q None s = omega arith
 store_more root q (Some x) s = by (eqb root (key_named x)) refl
   where
@@ -31,7 +31,7 @@ store_more root q (Some x) s = by (eqb root (key_named x)) refl
     by false is = let g : (q x && is_kept root x) ≡ q x = ap (λ (b : Bool). q x && cond b false true) is ∙ and_true (q x) in let a = count_more q s.records x in let c = bump_is (q x && is_kept root x) 0 in let h = ap hit g in omega (arith, a, c, h)
 
 -- and so has the list of the root's replacements
-list_more : (root : ℕ) (q : Record → Bool) (y : Option Record) (xs : List Record) → count q (kept_list root y xs) ≡ count q xs + count (λ x. q x && is_root_replaced root x) (as_list y)
+pub list_more : (root : ℕ) (q : Record → Bool) (y : Option Record) (xs : List Record) → count q (kept_list root y xs) ≡ count q xs + count (λ x. q x && is_root_replaced root x) (as_list y)
 list_more root q None xs = omega arith
 list_more root q (Some x) xs = by (is_root_replaced root x) refl
   where
@@ -39,7 +39,7 @@ list_more root q (Some x) xs = by (is_root_replaced root x) refl
     by true is = let g : (q x && is_root_replaced root x) ≡ q x = ap (λ (b : Bool). q x && b) is ∙ and_true (q x) in let a = count_more q xs x in let c = bump_is (q x && is_root_replaced root x) 0 in let h = ap hit g in omega (arith, a, c, h)
     by false is = let g : (q x && is_root_replaced root x) ≡ false = ap (λ (b : Bool). q x && b) is ∙ and_false (q x) in let c = bump_is (q x && is_root_replaced root x) 0 in let h = ap hit g in omega (arith, c, h)
 
-noted_more : (t : Record → Bool) (y : Option Record) (xs : List Record) → count t (as_list y ++ xs) ≡ count t (as_list y) + count t xs
+pub noted_more : (t : Record → Bool) (y : Option Record) (xs : List Record) → count t (as_list y ++ xs) ≡ count t (as_list y) + count t xs
 noted_more t None xs = omega arith
 noted_more t (Some x) xs = let a = bump_is (t x) (count t xs) in let b = bump_is (t x) 0 in omega (arith, a, b)
 

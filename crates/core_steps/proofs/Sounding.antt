@@ -42,7 +42,8 @@ module _ (e : Setting) (p : Plain) (i : ℕ) (w : View) (ws : List ℕ) (bs : Li
     pub housed : IsHoused e p.shape bs (set p.views i w)
 
   module _ (s : IsSound e p) (low : i < length p.views) (z : Stands) where
-    sound_with : (ss : List Stored) (rs : List Record) (room : ℕ) → length ss ≡ length p.stores → Keeps e.graph.root (set p.views i w) ss rs
+    -- the records may be kept in any way
+    pub sound_with : (ss : List Stored) (rs : List Record) (room : ℕ) → length ss ≡ length p.stores → Keeps e.graph.root (set p.views i w) ss rs
         → IsSound e (record p { words = ws; views = set p.views i w; blocks = bs; stores = ss; root_replaced = rs; replaced_room = room })
     sound_with ss rs room many noted_all = record {
       setting = s.setting;
@@ -71,12 +72,12 @@ module _ (e : Setting) (p : Plain) (i : ℕ) (w : View) (ws : List ℕ) (bs : Li
         (length-set p.stores i (kept_store e.graph.root y (get_or p.stores i no_store))) (entered_keeps e p i low s y w recs))
 
 -- what an event leaves alone that moves no block: the hands, and the block whose turn it may be
-record LeavesBlocks (e : Setting) (x : Event) (n : ℕ) : Type 0 where
+pub record LeavesBlocks (e : Setting) (x : Event) (n : ℕ) : Type 0 where
   pub hands : (v : View) → hands_left e x n v ≡ v.hands
   pub was : (y : BlockCells) → block_was e x n y ≡ y
   pub now : (y : BlockCells) → block_left e x y ≡ y
 
-leaves_blocks : (e : Setting) (x : Event) (n : ℕ) → moves_block x n ≡ false → LeavesBlocks e x n
+pub leaves_blocks : (e : Setting) (x : Event) (n : ℕ) → moves_block x n ≡ false → LeavesBlocks e x n
 leaves_blocks e (claim r k) n calm = record { hands = λ v. refl; was = λ y. refl; now = λ y. refl }
 leaves_blocks e (look r) n calm = record { hands = λ v. refl; was = λ y. refl; now = λ y. refl }
 leaves_blocks e (load_descriptor r k) n calm = record { hands = λ v. refl; was = λ y. refl; now = λ y. refl }
@@ -128,7 +129,7 @@ module _ (e : Setting) (p : Plain) (i : ℕ) (low : i < length p.views) (s : IsS
     same_total : (b : ℕ) → total_of (set p.views i next) (in_hand b) ≡ total_of p.views (in_hand b)
     same_total b = let a = total_set p.views i (view_at p i) next (in_hand b) (elem_at p.views i blank low) in let c : in_hand b next ≡ in_hand b (view_at p i) = ap (count (is_hand b)) same_hands in omega (arith, a, c)
 
-    stands : Stands e p i next (set p.words (place_of p.shape (at x)) (left e x found)) p.blocks
+    pub stands : Stands e p i next (set p.words (place_of p.shape (at x)) (left e x found)) p.blocks
     stands = record {
       fits = length-set p.words (place_of p.shape (at x)) (left e x found) ∙ s.fits;
       kept = kept_event e s.setting (core_by p.shape p.words p.blocks p.views) (core_by p.shape (set p.words (place_of p.shape (at x)) (left e x found)) p.blocks (set p.views i next)) (sums_of p) x found (view_at p i) can happens (s.holds, s.passed, s.prevented);

@@ -15,10 +15,11 @@ mod plain;
 mod renewing;
 mod seat;
 mod steps;
-mod store;
+pub mod store;
 mod striking;
 mod touching;
 pub mod trace;
+pub mod tracing;
 mod views;
 
 pub use closed::Closed;

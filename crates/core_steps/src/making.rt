@@ -160,7 +160,7 @@ pub fn struck_entry(key: u64, hit: Hit, told: Hitting) -> Option<Record>
 
 /// Notes a record, if there is one, in the room that there is. Of the root only replacements are kept,
 /// in a list of their own.
-pub(crate) fn keep(store: &mut Store, root_replaced: &mut Vec<Record>, entry: Option<Record>)
+pub fn keep(store: &mut Store, root_replaced: &mut Vec<Record>, entry: Option<Record>)
     requires store { 0 < store.old.room }
     requires list { 0 < vec_capacity root_replaced.old - vec_len root_replaced.old }
     ensures store { store.new ≡ kept_store (2 ^ 63) entry store.old }

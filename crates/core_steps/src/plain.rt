@@ -168,7 +168,7 @@ impl<C: Course> PlainTable<C> {
         let _ = self.rows();
         prove!(worker < self.stores.len());
         self.root_replaced.reserve(n as usize)?;
-        self.stores[worker].reserve(n)
+        self.stores[worker].reserve(n as usize)
     }
 
     /// The word at a place of the list.

@@ -1,15 +1,15 @@
 //! A worker's seat at the plain table.
 ghost use Rattle.std.proofs.Common.{refl};
-ghost use Rattle.std.specs.Prelude.{◌≡◌, ◌<◌, ◌+◌, [], ◌∷◌, length, slice_set};
+ghost use Rattle.std.specs.Prelude.{◌≡◌, ◌<◌, [], ◌∷◌, length, slice_set};
 ghost use Rattle.core_state.specs.Views.{blank};
-ghost use Rattle.core_steps.specs.Seat.{Explores, Awaits, known_of, key_event, Trace};
+ghost use Rattle.core_steps.specs.Seat.{Explores, Awaits, known_of, key_event};
 ghost use Rattle.core_state.specs.Events.{Can};
 ghost use Rattle.core_steps.specs.Table.{IsSeatStep, WordsAfter, view_at, spare_of};
 
-use crate::kinds::Touched;
 use crate::plain::PlainTable;
 use crate::steps::Steps;
 use crate::trace;
+use crate::tracing::{key_stepped, stepped};
 use core_state::{
     BlockCells, Closing, Course, Descriptor, Elected, Hitting, Job, NotifyWord, Recovery,
     Registered, Told,
@@ -53,18 +53,6 @@ impl<C: Course> PlainTable<C> {
             steps: Ghost::of::<(), trace::NoStep>(&()),
         }
     }
-}
-
-fn stepped(before: &Ghost<trace::Steps>, word: Touched) -> Ghost<trace::Steps>
-    ensures { result ≡ record { made = before.now.made + 1; shown = (word.at, word.found); last = before.now.last } }
-{
-    Ghost::of::<trace::Step<'_>, trace::Stepped>(&trace::Step { before, word })
-}
-
-fn key_stepped(before: &Ghost<trace::Steps>, row: u32, word: Touched) -> Ghost<trace::Steps>
-    ensures { result ≡ record { made = before.now.made + 1; shown = (word.at, word.found); last = (row, word.found) } }
-{
-    Ghost::of::<trace::KeyStep<'_>, trace::Stepped>(&trace::KeyStep { before, row, word })
 }
 
 impl<'a, C: Course> KeyWords for PlainSeat<'a, C> {

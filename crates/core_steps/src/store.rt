@@ -5,7 +5,7 @@ use std::marker::Model;
 
 /// Records in order, and room for more.
 #[derive(Drop)]
-pub(crate) struct Store {
+pub struct Store {
     records: Vec<Record>,
 }
 
@@ -22,7 +22,7 @@ impl Store {
     ghost use Rattle.std.specs.Prelude.{◌≡◌, ◌≤◌, ◌<◌, ◌+◌, ◌++◌, [], length, OnOk};
     ghost use Rattle.core_steps.specs.Table.{with_record};
 
-    pub(crate) fn new(alloc: Global) -> Store
+    pub fn new(alloc: Global) -> Store
         ensures { result.records ≡ [] }
     {
         Store {
@@ -31,15 +31,15 @@ impl Store {
     }
 
     /// Makes room for so many records.
-    pub(crate) fn reserve(&mut self, n: u32) -> Result<(), AllocError>
+    pub fn reserve(&mut self, n: usize) -> Result<(), AllocError>
         ensures records { self.new.records ≡ self.old.records }
         ensures room { self.old.room ≤ self.new.room }
         ensures ok { OnOk result (n ≤ self.new.room) }
     {
-        self.records.reserve(n as usize)
+        self.records.reserve(n)
     }
 
-    pub(crate) fn note(&mut self, entry: Record)
+    pub fn note(&mut self, entry: Record)
         requires { 0 < self.old.room }
         ensures { self.new ≡ with_record self.old entry }
     {
@@ -47,7 +47,7 @@ impl Store {
     }
 
     /// Notes these records in the room that there is.
-    pub(crate) fn note_all(&mut self, records: &[Record])
+    pub fn note_all(&mut self, records: &[Record])
         requires { length records.now ≤ self.old.room }
         ensures records { self.new.records ≡ self.old.records ++ records.now }
         ensures room { self.old.room ≤ self.new.room + length records.now }
@@ -56,19 +56,19 @@ impl Store {
     }
 
     /// A store with these records.
-    pub(crate) fn of(records: Vec<Record>) -> Store
+    pub fn of(records: Vec<Record>) -> Store
         ensures { result.records ≡ records.items }
     {
         Store { records }
     }
 
-    pub(crate) fn as_slice(&self) -> &[Record]
+    pub fn as_slice(&self) -> &[Record]
         ensures { result.now ≡ self.now.records }
     {
         self.records.as_slice()
     }
 
-    pub(crate) fn into_records(self) -> Vec<Record>
+    pub fn into_records(self) -> Vec<Record>
         ensures { result.items ≡ self.records }
     {
         let Store { records } = self;

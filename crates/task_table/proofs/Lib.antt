@@ -1,0 +1,12 @@
+pub mod Boards
+pub mod Standing
+pub mod Blocks
+pub mod Allowed
+pub mod Passing
+pub mod Counting
+pub mod Handing
+pub mod Sitting
+pub mod Dealing
+pub mod Opening
+pub mod Last
+pub mod Lent

@@ -1,0 +1,4 @@
+pub mod Kept
+pub mod Moments
+pub mod Passes
+pub mod Ends
