@@ -1,24 +1,27 @@
 -- What holds with any views with which a closed core is as the invariant says.
-use Rattle.std.proofs.Common.{◌≡◌, ℕ, zero, suc, ◌+◌, ◌<◌, Bool, true, false, List, [], ◌∷◌, ℤ, get_or, ⊎_elim, inl, inr, arith, sym, ap, refl, ◌∙◌, subst, Option, Some, None}
+use Rattle.std.proofs.Common.{◌≡◌, ℕ, zero, suc, ◌+◌, ◌<◌, ◌≤◌, Bool, true, false, cond, eqb, List, [], ◌∷◌, ℤ, get_or, ⊎_elim, inl, inr, arith, sym, ap, refl, ◌∙◌, subst, Option, Some, None}
 use mathlib.Core.Logic.{dite}
 use native.Mathlib.Decide.{ℕ_discrete, dec_lt}
 use Rattle.std.proofs.Math.Logic.{∥∥₁_elim, ∥∥₁_map}
 use Rattle.std.proofs.Math.Bridge.{le_prop}
 use Rattle.std.proofs.Math.Nat.{ℕ_set}
 use Rattle.std.specs.Coded.{Coded-set, coded_option, coded_list, coded_ℤ}
-use Rattle.core_state.specs.Graph.{Setting}
+use Rattle.core_state.specs.Graph.{Setting, Reached, greatest_life}
 use Rattle.core_state.specs.Words.{pending}
 use Rattle.core_state.specs.Counts.{count, items, noted, total_of}
-use Rattle.core_state.specs.Tests.{is_any_struck, is_any_replaced, is_of, is_replaced, is_suspect_for}
+use Rattle.core_state.specs.Tests.{two, is_at, is_any_struck, is_any_replaced, is_of, is_replaced, is_suspect_for, same_cause}
 use Rattle.core_state.specs.Change.{Core, Sums, block_of, cells_or}
 use Rattle.core_state.specs.Laws.{SpentOnce, ComputedOnce, ReplacedOnce, CausesShown, LivesNamed, SpentByEdge, FaultFree, IsGrounded, SixLaws, LawfulRecords, Planned, Played}
 use Rattle.core_state.specs.Invariant.{IsQuiet, Finished}
 use Rattle.core_state.specs.declared.block.BlockCells.{BlockCells}
 use Rattle.core_state.specs.declared.views.Item.{Item}
+use Rattle.core_state.specs.declared.views.Item.TheVariants as item
 use Rattle.core_state.specs.declared.views.View.{View}
 use Rattle.core_state.proofs.End.Lists.{count_below, within, nothing_else, none_of_root, list_spent, list_computed, list_replaced, list_lives, list_edges}
-use Rattle.core_state.proofs.End.Causes.{list_causes, list_suspected, root_suspected, root_once, root_before, root_shown}
-use Rattle.core_state.proofs.Row.Made.{replaced_of}
+use Rattle.core_state.proofs.End.Causes.{list_causes, list_suspected, root_suspected, root_lives, root_once, root_before, root_shown}
+use Rattle.core_state.proofs.Row.Made.{both, replaced_of}
+use Rattle.core_state.proofs.Row.View.{items_below}
+use Rattle.core_state.proofs.Base.Counting.{eqb_here}
 use Rattle.core_state.proofs.Plan.PlayedList.{list_planned, list_played}
 use Rattle.core_state.proofs.End.Quiet.{finished, root_home}
 use Rattle.core_state.proofs.Base.Words.{read_at}
@@ -40,6 +43,11 @@ unfolding total_of
 seen_total p [] i z = absurd (omega (arith, z))
 seen_total p (v ∷ vs) zero z = omega (arith, z)
 seen_total p (v ∷ vs) (suc i) z = let a = seen_total p vs i z in omega (arith, a)
+
+-- a suspect of a life names the key
+suspect_named : (k l : ℕ) (c : Cause) (x : Item) → is_suspect_for k l c x ≡ true → is_at k x ≡ true
+suspect_named k l c (item.Suspect a m d w) z = (both (eqb k a) (eqb l m) (both (two k l a m) (same_cause c d) z).0).0
+suspect_named k l c x z = absurd cc
 
 -- a value that is there, and the list that it is
 abbrev is_there : {A : Type 0} → Option A → Bool
@@ -96,9 +104,18 @@ module _ (e : Setting) (ws : List ℕ) (bs : List (Option BlockCells)) (xs rs : 
     plan_played : get_or ws 0 0 ≡ 0 → Played e.graph e.plan (λ p. count p xs)
     plan_played none = list_played e z.setting (core_by e.shape ws bs vs) sums z.holds xs z.others z.passed z.prevented (is_quiet none)
 
+    -- whatever a view suspects has a row, which was made for a key on which the root depends
+    suspect_reached : (i k l : ℕ) (c : Cause) → 0 < items (is_suspect_for k l c) (view_in vs i) → Reached e.graph k
+    suspect_reached i k l c some = let a = items_below (is_suspect_for k l c) (is_at k) (suspect_named k l c) (view_in vs i).stacks in let row = z.holds.keys.of_item k (seen_total (is_at k) vs i (omega (arith, a, some))) in z.holds.keys.reached row.0 k row.1
+
     pub suspect_shown : (i k l : ℕ) (c : Cause) → 0 < items (is_suspect_for k l c) (view_in vs i) → SuspectShown e xs rs k l c
     suspect_shown i k l c some = let s : Core = core_by e.shape ws bs vs in let there : 0 < s.total (items (is_suspect_for k l c)) = seen_total (is_suspect_for k l c) vs i some in let a = list_suspected e z.setting s sums z.holds xs z.others k l c there in
-        record { shown = a.0; some_life = a.1; most = a.2; root = λ is m from low. root_suspected e z.setting s sums z.holds xs z.others rs z.replaced l c (subst (λ y. 0 < s.total (items (is_suspect_for y l c))) is there) m from low }
+        record { reached = suspect_reached i k l c some; shown = a.0; some_life = a.1; most = a.2; root = λ is m from low. root_suspected e z.setting s sums z.holds xs z.others rs z.replaced l c (subst (λ y. 0 < s.total (items (is_suspect_for y l c))) is there) m from low }
+
+    -- the greatest life of the root has none after it
+    root_last : (l : ℕ) → 65535 ≤ l → count (is_replaced e.graph.root l) rs ≡ 0
+    root_last l late = dite (ℕ_discrete (count (is_replaced e.graph.root l) rs) 0) (λ none. none)
+        (λ some. absurd (let a = root_lives e z.setting (core_by e.shape ws bs vs) sums z.holds xs z.others rs z.replaced l (omega (arith, some)) in let b : greatest_life e e.graph.root ≡ 65535 = ap (λ (t : Bool). cond t 65535 e.lives) (eqb_here e.graph.root) in omega (arith, a.1, b, late)))
 
     root_only : RootReplaced e.graph rs
     root_only = record {
@@ -106,6 +123,7 @@ module _ (e : Setting) (ws : List ℕ) (bs : List (Option BlockCells)) (xs rs : 
       once = root_once e z.setting (core_by e.shape ws bs vs) sums z.holds xs z.others rs z.replaced;
       some_life = let k : ℕ = e.graph.root in let a = within e z.setting (core_by e.shape ws bs vs) sums z.holds (is_root_replaced k) rs z.replaced (is_replaced k 0) in
           let b = sums.below (noted (is_replaced k 0)) (noted (is_of k 0)) (λ v. count_below (is_replaced k 0) (is_of k 0) (replaced_of k 0) v.records) in let c = z.holds.records.some_life k in omega (arith, a, b, c);
+      last = root_last;
       before = root_before e z.setting (core_by e.shape ws bs vs) sums z.holds xs z.others rs z.replaced;
     }
 

@@ -1,0 +1,104 @@
+-- The calls of all kernels against the records of all views.
+use Rattle.std.proofs.Common.{◌≡◌, ◌≢◌, ◌∙◌, ℕ, ℤ, zero, suc, ◌+◌, ◌<◌, List, [], ◌∷◌, ◌++◌, Option, None, Result, Ok, Err, length, slice_index_or, subst, sym, refl, arith}
+use mathlib.Core.Logic.{dite}
+use native.Mathlib.Decide.{ℕ_discrete}
+use Rattle.graph_model.specs.Notes.{Note}
+use Rattle.graph_model.specs.declared.record.Record.{Record}
+use Rattle.core_state.specs.Counts.{count, noted, total_of}
+use Rattle.core_state.specs.Tests.{is_computed, two}
+use Rattle.core_state.specs.Rooted.{root_key}
+use Rattle.core_state.specs.declared.views.View.{View}
+use Rattle.core_state.proofs.Seats.View.{count_both}
+use Rattle.core_steps.specs.Table.{IsClosing, view_in}
+use Rattle.core_state.specs.Graph.{Setting}
+use Rattle.core_state.specs.declared.block.BlockCells.{BlockCells}
+use Rattle.core_laws.specs.Lists.{AreOfTasks}
+use Rattle.worker_pool.specs.Ends.{HasAllRecords, RunCalls}
+use Rattle.worker_pool.specs.declared.end.Why.{Why}
+use Rattle.worker_pool.specs.declared.end.Why.TheVariants as why
+use Rattle.worker_pool.proofs.Closing.{kept_computed, no_root_computed}
+use Rattle.worker_pool.proofs.Calls.{none_added}
+use Rattle.worker_pool.specs.Calling.{AddCalls, AddsCalls, CalledAsRecorded, HasCalled, OnlyCalled, all_calls, calls_for}
+use Rattle.worker_pool.specs.Pooling.{KernelsCalled}
+
+-- the new calls of all kernels, and how often each of them was made
+pub record AreGathered (before now : List (Option (List Note))) (vs : List View) : Type 0 where
+  pub news : List (List Note)
+  pub calls : AddCalls before now news
+  pub as_often : (k l : ℕ) → k ≢ root_key → calls_for k l (all_calls news) ≡ total_of vs (noted (is_computed k l))
+  pub of_tasks : (l : ℕ) → calls_for root_key l (all_calls news) ≡ 0
+
+both_for : (k l : ℕ) (xs ys : List Note) → calls_for k l (xs ++ ys) ≡ calls_for k l xs + calls_for k l ys
+both_for k l xs ys = count_both (λ n. two k l n.0 n.1) xs ys
+
+-- one kernel more in front
+gathered_more : (b c : Option (List Note)) (bs cs : List (Option (List Note))) (v : View) (vs : List View) → HasCalled b c v → AreGathered bs cs vs → AreGathered (b ∷ bs) (c ∷ cs) (v ∷ vs)
+unfolding total_of
+gathered_more b c bs cs v vs one more = record {
+  news = one.news ∷ more.news;
+  calls = record {
+    same_count = let a = more.calls.same_count in omega (arith, a);
+    news_count = let a = more.calls.news_count in omega (arith, a);
+    each = each;
+  };
+  as_often = λ k l ne. let a = both_for k l one.news (all_calls more.news) in let b = one.as_often k l ne in let d = more.as_often k l ne in omega (arith, a, b, d);
+  of_tasks = λ l. let a = both_for root_key l one.news (all_calls more.news) in let b = one.of_tasks l in let d = more.of_tasks l in omega (arith, a, b, d);
+}
+  where
+    each : (i : ℕ) → i < length (b ∷ bs) → AddsCalls (slice_index_or (b ∷ bs) i None) (slice_index_or (c ∷ cs) i None) (slice_index_or (one.news ∷ more.news) i [])
+    each zero low = one.calls_are
+    each (suc i) low = more.calls.each i (omega (arith, low))
+
+pub gathered : (before now : List (Option (List Note))) (vs : List View) → length now ≡ length before → length vs ≡ length before → ((i : ℕ) → i < length before → HasCalled (slice_index_or before i None) (slice_index_or now i None) (view_in vs i)) → AreGathered before now vs
+unfolding total_of
+gathered [] [] [] same count each = record { news = []; calls = record { same_count = refl; news_count = refl; each = λ i low. absurd (omega (arith, low)) }; as_often = λ k l ne. refl; of_tasks = λ l. refl }
+gathered [] (c ∷ cs) vs same count each = absurd (omega (arith, same))
+gathered [] [] (v ∷ vs) same count each = absurd (omega (arith, count))
+gathered (b ∷ bs) [] vs same count each = absurd (omega (arith, same))
+gathered (b ∷ bs) (c ∷ cs) [] same count each = absurd (omega (arith, count))
+gathered (b ∷ bs) (c ∷ cs) (v ∷ vs) same count each = gathered_more b c bs cs v vs (each 0 (omega arith)) (gathered bs cs vs (omega (arith, same)) (omega (arith, count)) (λ i low. each (suc i) (omega (arith, low))))
+
+-- whatever the views hold, no call is lost
+pub only_called : (before now : List (Option (List Note))) (vs : List View) → length vs ≡ length before → KernelsCalled before now vs → OnlyCalled before now
+only_called before now vs count called = let all = gathered before now vs called.same_count count called.each in record { news = all.news; calls = all.calls }
+
+-- where the records are those of all views, but for those of the root, calls and recorded results are as many of each
+pub called_as_recorded : (before now : List (Option (List Note))) (vs : List View) (records : List Record) → length vs ≡ length before → KernelsCalled before now vs → ((k l : ℕ) → k ≢ root_key → count (is_computed k l) records ≡ total_of vs (noted (is_computed k l))) → ((l : ℕ) → count (is_computed root_key l) records ≡ 0) → CalledAsRecorded before now records
+called_as_recorded before now vs records many called of_tasks of_root = let all = gathered before now vs called.same_count many called.each in record {
+  news = all.news;
+  calls = all.calls;
+  as_often = λ k l. dite (ℕ_discrete k root_key)
+      (λ is. subst (λ x. calls_for x l (all_calls all.news) ≡ count (is_computed x l) records) (sym is) (all.of_tasks l ∙ sym (of_root l)))
+      (λ ne. all.as_often k l ne ∙ sym (of_tasks k l ne));
+}
+
+-- kernels that were not called at all
+pub none_called_at_all : (before : List (Option (List Note))) → OnlyCalled before before
+none_called_at_all [] = record { news = []; calls = record { same_count = refl; news_count = refl; each = λ i low. absurd (omega (arith, low)) } }
+none_called_at_all (b ∷ bs) = let rest = none_called_at_all bs in record {
+  news = [] ∷ rest.news;
+  calls = record {
+    same_count = refl;
+    news_count = let a = rest.calls.news_count in omega (arith, a);
+    each = each rest;
+  };
+}
+  where
+    each : (rest : OnlyCalled bs bs) (i : ℕ) → i < length (b ∷ bs) → AddsCalls (slice_index_or (b ∷ bs) i None) (slice_index_or (b ∷ bs) i None) (slice_index_or ([] ∷ rest.news) i [])
+    each rest zero low = none_added b
+    each rest (suc i) low = rest.calls.each i (omega (arith, low))
+
+-- The records of a closed table have the results of all its views.
+pub all_recorded : (e : Setting) (vs : List View) (ws : List ℕ) (bs : List (Option BlockCells)) (tasks root records : List Record) (before now : List (Option (List Note)))
+    → IsClosing e vs ws bs tasks root → e.graph.root ≡ root_key → AreOfTasks e.graph tasks → length vs ≡ length before → KernelsCalled before now vs
+    → ((k l : ℕ) → count (is_computed k l) records ≡ count (is_computed k l) tasks) → CalledAsRecorded before now records
+all_recorded e vs ws bs tasks root records before now closing at_root of_tasks many called same = called_as_recorded before now vs records many called
+    (λ k l ne. kept_computed e.graph.root k l (λ is. ne (is ∙ at_root)) vs (count (is_computed k l) records) (same k l ∙ closing.others (is_computed k l)))
+    (λ l. subst (λ r. count (is_computed r l) records ≡ 0) at_root (same e.graph.root l ∙ no_root_computed e.graph l tasks of_tasks))
+
+-- the kernels' calls of a run, by what it came to
+pub run_calls : (before now : List (Option (List Note))) (value : Result (List ℤ) Why) (records : List Record) → OnlyCalled before now → (HasAllRecords value → CalledAsRecorded before now records) → RunCalls before now value records
+run_calls before now (Ok x) records only all = all tt
+run_calls before now (Err why.OutOfMemory) records only all = only
+run_calls before now (Err (why.LivesSpent k l c)) records only all = all tt
+run_calls before now (Err (why.ScheduleShort pending)) records only all = all tt

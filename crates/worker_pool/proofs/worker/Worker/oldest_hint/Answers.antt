@@ -1,0 +1,6 @@
+use Rattle.std.proofs.Common.{◌<◌, ℕ, All, List, subst, sym}
+use Rattle.std.proofs.lemmas.List.Elements.{All-drop}
+use Rattle.worker_pool.proofs.worker.Worker.oldest_hint.Goals as goal
+
+pub returns-clause-hints : goal.returns-clause-hints
+returns-clause-hints c = λ rows all. subst (All (λ row. row < rows)) (sym {A = List ℕ} c.pop_front.ensures.rest) (All-drop (λ row. row < rows) 1 c.args.self.now.hints.items all)
