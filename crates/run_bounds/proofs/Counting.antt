@@ -1,0 +1,59 @@
+-- Counts of lists: of two lists together, of a weaker test, and where there is an element that passes.
+use Rattle.std.proofs.Common.{◌≡◌, ◌⊎◌, ℕ, zero, suc, ◌+◌, ◌<◌, ◌≤◌, Bool, true, false, cond, eqb, List, [], ◌∷◌, ◌++◌, length, Contains, slice_index_or, ⊎_elim, inl, inr, arith, refl, ap, sym, ◌∙◌}
+use Rattle.std.specs.List.{AllByRecursion, sum_by}
+use Rattle.std.proofs.lemmas.Bool.{eq-eqb}
+use Rattle.std.proofs.lemmas.List.Sums.{sum_by-cons}
+use Rattle.core_state.specs.Counts.{bump, count, hit}
+use Rattle.core_state.proofs.Base.Counting.{bump_is}
+
+pub count_both : {X : Type 0} (p : X → Bool) (xs ys : List X) → count p (xs ++ ys) ≡ count p xs + count p ys
+count_both p [] ys = omega arith
+count_both p (x ∷ xs) ys = let a = count_both p xs ys in let b = bump_is (p x) (count p (xs ++ ys)) in let c = bump_is (p x) (count p xs) in omega (arith, a, b, c)
+
+-- what passes one test passes the other
+pub count_weaker : {X : Type 0} (p q : X → Bool) → ((x : X) → p x ≡ true → q x ≡ true) → (xs : List X) → count p xs ≤ count q xs
+count_weaker p q all [] = omega arith
+count_weaker p q all (x ∷ xs) = by (p x) refl (count_weaker p q all xs)
+  where
+    by : (b : Bool) → p x ≡ b → count p xs ≤ count q xs → bump b (count p xs) ≤ bump (q x) (count q xs)
+    by true is h = let a = ap hit (all x is) in let b = bump_is (q x) (count q xs) in omega (arith, h, a, b)
+    by false is h = let b = bump_is (q x) (count q xs) in omega (arith, h, b)
+
+-- none that passes
+pub count_none : {X : Type 0} (p : X → Bool) → ((x : X) → p x ≡ false) → (xs : List X) → count p xs ≡ 0
+count_none p all [] = refl
+count_none p all (x ∷ xs) = let a = count_none p all xs in let b = bump_is (p x) (count p xs) in let c = ap hit (all x) in omega (arith, a, b, c)
+
+-- a number that a list contains is counted in it
+pub counted_in : (k : ℕ) (xs : List ℕ) → Contains xs k → 0 < count (eqb k) xs
+counted_in k xs has = at xs has.0 has.1 has.2
+  where
+    at : (xs : List ℕ) (i : ℕ) → i < length xs → slice_index_or xs i k ≡ k → 0 < count (eqb k) xs
+    at [] i low is = absurd (omega (arith, low))
+    at (x ∷ xs) zero low is = let a = ap hit (eq-eqb k x (sym is)) in let b = bump_is (eqb k x) (count (eqb k) xs) in omega (arith, a, b)
+    at (x ∷ xs) (suc i) low is = let a = at xs i (omega (arith, low)) is in let b = bump_is (eqb k x) (count (eqb k) xs) in omega (arith, a, b)
+
+-- a count as a sum, and a length
+pub count_sum : {X : Type 0} (p : X → Bool) (xs : List X) → sum_by (λ x. cond (p x) 1 0) xs ≡ count p xs
+count_sum p [] = refl
+count_sum p (x ∷ xs) = let h = count_sum p xs in let a = sum_by-cons (λ y. cond (p y) 1 0) x xs in by (p x) h a
+  where
+    by : (b : Bool) → sum_by (λ y. cond (p y) 1 0) xs ≡ count p xs → sum_by (λ y. cond (p y) 1 0) (x ∷ xs) ≡ cond b 1 0 + sum_by (λ y. cond (p y) 1 0) xs → sum_by (λ y. cond (p y) 1 0) (x ∷ xs) ≡ bump b (count p xs)
+    by true h a = omega (arith, h, a)
+    by false h a = omega (arith, h, a)
+
+pub length_sum : {X : Type 0} (xs : List X) → sum_by (λ x. 1) xs ≡ length xs
+length_sum [] = refl
+length_sum (x ∷ xs) = let h = length_sum xs in let a = sum_by-cons (λ y. 1) x xs in omega (arith, h, a)
+
+-- what holds of each that is counted
+pub each_counted : {X : Type 0} (P : X → Type 0) (same : X → X → Bool) → ((x : X) → same x x ≡ true) → (xs : List X) → ((x : X) → 0 < count (same x) xs → P x) → AllByRecursion P xs
+each_counted P same here [] all = tt
+each_counted P same here (x ∷ xs) all = (
+  all x (let a = ap hit (here x) in let b = bump_is (same x x) (count (same x) xs) in omega (arith, a, b)),
+  each_counted P same here xs (λ y some. all y (let b = bump_is (same y x) (count (same y) xs) in omega (arith, some, b))),
+)
+
+-- a list without one element has no more of any other
+pub other_count : {X : Type 0} (p : X → Bool) (x : X) (xs : List X) → count p (x ∷ xs) ≡ hit (p x) + count p xs
+other_count p x xs = bump_is (p x) (count p xs)

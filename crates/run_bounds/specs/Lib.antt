@@ -1,0 +1,4 @@
+pub mod Budgets
+pub mod Calm
+pub mod Hinting
+pub mod Ledger
