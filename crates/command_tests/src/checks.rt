@@ -6,7 +6,7 @@ use graph_runner::check_command;
 use io_edge::{MemSink, MemSource, read_all};
 use std::test::Fail;
 
-const CASES: [Case<'static>; 5] = [
+const CASES: [Case<'static>; 8] = [
     (
         "check",
         DIAMOND,
@@ -30,6 +30,9 @@ const CASES: [Case<'static>; 5] = [
     ),
     // A run is none of its commands, and nothing is read.
     ("run", DIAMOND, 2, USAGE, ""),
+    ("run --records", DIAMOND, 2, USAGE, ""),
+    ("replay", DIAMOND, 2, USAGE, ""),
+    ("drill 7", DIAMOND, 2, USAGE, ""),
     ("", DIAMOND, 2, USAGE, ""),
 ];
 

@@ -7,8 +7,10 @@ use std::test::Fail;
 #[test]
 fn reads_and_writes(rt: HostRuntime) -> Result<(), Fail> {
     let by = |per_call, fault| Pace { per_call, fault };
+    let cut = &DIAMOND[..DIAMOND.len() - 1];
     let cases = [
         (DIAMOND, by(1, 0), by(1, 0), 0, "", "value -4\n"),
+        (cut, by(16, 0), WHOLE, 5, "not JSON", ""),
         (DIAMOND, by(16, 3), WHOLE, 3, "input could not be read", ""),
         ("", by(16, 1), WHOLE, 3, "input could not be read", ""),
         (
@@ -29,9 +31,17 @@ fn reads_and_writes(rt: HostRuntime) -> Result<(), Fail> {
         ),
     ];
     for (text, read, write, status, message, written) in cases {
-        let text = Text::from_slice(rt.alloc(), text.as_bytes())?;
-        let end = answer_of(&rt, rt.alloc(), "run", text, read, write)?;
-        assert!(rt; end.is(status, message, written), "{status} {written}");
+        for line in ["run", "replay", "run --records"] {
+            let bytes = Text::from_slice(rt.alloc(), text.as_bytes())?;
+            let end = answer_of(&rt, rt.alloc(), line, bytes, read, write)?;
+            // With the records, what is written begins with the same line.
+            let all = line != "run --records" || status != 0;
+            assert!(rt;
+                !all || end.is(status, message, written),
+                "{line} {status} {written}"
+            );
+            assert_eq!(rt; end.status, status, "{line}");
+        }
     }
     Ok(())
 }

@@ -198,6 +198,48 @@ fn limits_of_graphs(rt: HostRuntime) -> Result<(), Fail> {
     Ok(())
 }
 
+// So many tasks, each but the first with the one before as all of its 40 inputs.
+fn thick_chain(alloc: Global, count: u64) -> Result<String, AllocError> {
+    let mut draft = Draft::new(alloc, count)?;
+    draft.add(alloc, 1, "1", &[])?;
+    for key in 2..count.saturating_add(1) {
+        let inputs = vec![in alloc; key.saturating_sub(1); 40]?;
+        draft.add(alloc, key, "$0+1", inputs.as_slice())?;
+    }
+    draft.finish()
+}
+
+#[test]
+fn runs_by_workers(rt: HostRuntime) -> Result<(), Fail> {
+    let alloc = rt.alloc();
+    let sums = tree_of_sums(alloc)?;
+    for line in [
+        "replay",
+        "replay --workers 2",
+        "replay --workers 2 --schedule 0,1",
+        "replay --workers 2 --schedule 0,0,1,1,1",
+    ] {
+        compare(&rt, alloc, (line, sums.as_str(), 0, "", "value 1280\n"))?;
+    }
+    // It takes more than a million turns, and has them where none are asked for.
+    let thick = thick_chain(alloc, 4600)?;
+    compare(
+        &rt,
+        alloc,
+        ("replay", thick.as_str(), 0, "", "value 4600\n"),
+    )?;
+    let short = answer_of(
+        &rt,
+        alloc,
+        "replay --turns 1000000",
+        Text::from_slice(alloc, thick.as_bytes())?,
+        WHOLE,
+        WHOLE,
+    )?;
+    assert_eq!(rt; short.status, 10);
+    Ok(())
+}
+
 #[test]
 fn longest_inputs(rt: HostRuntime) -> Result<(), Fail> {
     let alloc = rt.alloc();

@@ -18,4 +18,8 @@ mod memory;
 #[cfg(test)]
 mod notes;
 #[cfg(test)]
+mod replays;
+#[cfg(test)]
 mod rows;
+#[cfg(test)]
+mod strikes;

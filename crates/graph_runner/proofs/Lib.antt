@@ -1,7 +1,16 @@
+pub mod Asking
+pub mod Chosen
 pub mod Formulas
-pub mod Handing
+pub mod Kernels
 pub mod Limits
 pub mod Loads
+pub mod Makes
+pub mod Opens
+pub mod Pieces
+pub mod Places
 pub mod Probes
+pub mod Products
+pub mod Replays
 pub mod Serves
+pub mod Taking
 pub mod Valuing

@@ -1,24 +1,20 @@
 -- The serial values of a file's graph are the values of its formulas.
 use Rattle.std.proofs.Common.{◌≡◌, ◌∙◌, ℕ, zero, suc, ◌<◌, ◌≤◌, ℤ, pos, List, [], ◌∷◌, ◌++◌, length, map, take, get_or, All, Contains, refl, sym, subst, ap, arith}
-use Rattle.std.proofs.lemmas.List.Sorted.{Contains-permutation, IsPermutation-refl}
+use Rattle.std.proofs.lemmas.List.Sorted.{Contains-permutation}
 use Rattle.std.proofs.lemmas.List.Elements.{All-nil, All-cons}
-use Rattle.std.specs.List.Sorted.{IsPermutation}
 use Rattle.formula_text.specs.Trees.{Tree, value_of}
 use Rattle.graph_model.specs.Graph.{IsTask, IsLawful}
 use Rattle.graph_model.specs.Serial.{inputs_of, serial}
-use Rattle.graph_model.specs.Notes.{Note}
-use Rattle.graph_model.specs.declared.record.Record.{Record}
 use Rattle.raw_graph.specs.declared.raw.RawGraph.{RawGraph}
 use Rattle.raw_graph.specs.declared.raw.RawTask.{RawTask}
 use Rattle.audit_checks.specs.Tasks.{key_of, keys_of, places_of}
 use Rattle.acyclic_audit.specs.Views.{graph, tree_at}
 use Rattle.acyclic_audit.specs.declared.graph.FileGraph.{FileGraph}
-use Rattle.serial_run.specs.Computing.{Fits, computed_of}
+use Rattle.serial_run.specs.Computing.{Fits}
 use Rattle.graph_model.proofs.Serials.{serial_step}
 use Rattle.graph_runner.specs.Accepting.{IsAcceptedAs}
-use Rattle.graph_runner.specs.Evaluating.{Evaluates}
 use Rattle.graph_runner.specs.Formulas.{cells_of, formula_outcome, FitsFormula}
-use Rattle.graph_runner.specs.Serving.{IsValuation, IsRun, value_text}
+use Rattle.graph_runner.specs.Serving.{IsValuation}
 
 pub map_long : {X Y : Type 0} (f : X → Y) (xs : List X) → length (map f xs) ≡ length xs
 map_long f [] = refl
@@ -97,15 +93,6 @@ valuation raw g told = λ i d inside.
     ∙ ap (λ cells. value_of (tree_at g k) cells) (joined_cells g (inputs_of (graph g) k) ∙ ap (map (value_at g)) (task_inputs raw g told i d inside))
     ∙ ap (λ (f : Tree). value_of f (map (value_at g) t.inputs)) (told.trees i d inside)
 
--- the evaluation of an accepted graph is a run of it
-pub run_of : (raw : RawGraph) (g : FileGraph) (records : List Record) (news : List (List Note)) (z : ℤ) (text : List ℕ) → IsAcceptedAs raw g → Evaluates g records news z → text ≡ value_text z
-    → IsRun raw records news text
-run_of raw g records news z text told evaluates says = record {
-  graph = graph g;
-  is = told.is;
-  computed = evaluates.computed;
-  noted = subst (λ ns. IsPermutation ns (computed_of records)) (sym evaluates.noted) (IsPermutation-refl (computed_of records));
-  value = value_at g;
-  serial = valuation raw g told;
-  says = says ∙ ap value_text (sym (ap (λ (cells : List ℤ). get_or cells 0 (pos 0)) evaluates.value) ∙ ap (value_at g) told.is.sink_is);
-}
+-- the sink's one cell, by its key in the file
+pub sink_value : (raw : RawGraph) (g : FileGraph) → IsAcceptedAs raw g → serial (graph g) (formula_outcome g) (graph g).sink ≡ value_at g raw.sink.0 ∷ []
+sink_value raw g told = ap (λ k. value_at g k ∷ []) told.is.sink_is

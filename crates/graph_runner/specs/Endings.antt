@@ -4,9 +4,11 @@ use Rattle.graph_reader.specs.declared.fault.TextFault.{TextFault}
 use Rattle.graph_reader.specs.declared.fault.TextFault.TheVariants as text
 use Rattle.audit_checks.specs.declared.fault.AuditFault.{AuditFault}
 use Rattle.audit_checks.specs.declared.fault.AuditFault.TheVariants as audit
-use Rattle.graph_runner.specs.Messages.{shown_fault, audit_text}
+use Rattle.worker_pool.specs.declared.end.Why.{Why}
+use Rattle.worker_pool.specs.declared.end.Why.TheVariants as why
+use Rattle.graph_runner.specs.Messages.{shown_fault, audit_text, round_text, spent_text}
 use Rattle.graph_runner.specs.declared.ending.Ending.{Ending}
-use Rattle.graph_runner.specs.declared.ending.Ending.TheVariants.{Done, Usage, ReadFault, WriteFault, Text, Audit, NotYet, OutOfMemory, TooLong}
+use Rattle.graph_runner.specs.declared.ending.Ending.TheVariants.{Done, Usage, ReadFault, WriteFault, Text, Audit, NotYet, LivesSpent, ScheduleShort, OutOfMemory, TooLong}
 
 -- what a fault of the text comes to, and one of the graph: want of memory is the same wherever it is met
 abbrev pub text_ending : TextFault → Ending
@@ -32,6 +34,12 @@ audit_ending (audit.VersionOrder b v) = Audit (audit.VersionOrder b v)
 audit_ending (audit.ReaderNotBefore r w) = Audit (audit.ReaderNotBefore r w)
 audit_ending (audit.InputCount t i) = Audit (audit.InputCount t i)
 
+-- what the end of a run without the value comes to
+abbrev pub run_ending : Why → Ending
+run_ending why.OutOfMemory = OutOfMemory
+run_ending (why.LivesSpent k l c) = LivesSpent k l c
+run_ending (why.ScheduleShort pending) = ScheduleShort pending
+
 -- the status that the program ends with
 abbrev pub status_of : Ending → ℕ
 status_of Done = 0
@@ -41,6 +49,8 @@ status_of WriteFault = 4
 status_of (Text fault) = 5
 status_of (Audit fault) = 6
 status_of NotYet = 5
+status_of (LivesSpent k l c) = 7
+status_of (ScheduleShort pending) = 10
 status_of OutOfMemory = 8
 status_of TooLong = 9
 
@@ -57,5 +67,7 @@ message_of WriteFault = line (codes "output could not be written")
 message_of (Text fault) = line (shown_fault fault)
 message_of (Audit fault) = line (audit_text fault)
 message_of NotYet = line (codes "not supported yet")
+message_of (LivesSpent k l c) = line (spent_text k l c)
+message_of (ScheduleShort pending) = line (round_text (codes "schedule ended with ") pending (codes " pending"))
 message_of OutOfMemory = []
 message_of TooLong = line (codes "input is longer than 67108864 bytes")

@@ -6,11 +6,11 @@ use Rattle.graph_model.specs.declared.record.Record.{Record}
 use Rattle.acyclic_audit.specs.Views.{graph}
 use Rattle.acyclic_audit.specs.declared.graph.FileGraph.{FileGraph}
 use Rattle.serial_run.specs.Computing.{ComputesEach, computed_of}
+use Rattle.worker_pool.specs.Calling.{all_calls}
 use Rattle.graph_runner.specs.Formulas.{formula_outcome}
-use Rattle.graph_runner.specs.Notes.{all_of}
 
 -- the sink's serial value, with a record and a note of each task that it needs
 pub record Evaluates (g : FileGraph) (records : List Record) (news : List (List Note)) (z : ℤ) : Type 0 where
   pub value : serial (graph g) (formula_outcome g) (graph g).sink ≡ z ∷ []
   pub computed : ComputesEach (graph g) records
-  pub noted : all_of news ≡ computed_of records
+  pub noted : all_calls news ≡ computed_of records

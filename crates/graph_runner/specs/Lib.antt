@@ -6,6 +6,9 @@ pub mod Formulas
 pub mod Loading
 pub mod Messages
 pub mod Notes
+pub mod Opening
+pub mod Replaying
 pub mod Serving
-pub mod Words
+pub mod Terms
+pub mod Workers
 pub mod Writing

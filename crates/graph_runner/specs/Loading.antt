@@ -10,7 +10,7 @@ use Rattle.graph_reader.specs.Answers.{StandsFor, ReadsGraph}
 use Rattle.graph_reader.specs.declared.fault.TextFault.{TextFault}
 use Rattle.graph_reader.specs.declared.fault.TextFault.TheVariants as text
 use Rattle.graph_runner.specs.declared.ending.Ending.{Ending}
-use Rattle.graph_runner.specs.declared.ending.Ending.TheVariants.{Done, Usage, ReadFault, WriteFault, Text, Audit, NotYet, OutOfMemory, TooLong}
+use Rattle.graph_runner.specs.declared.ending.Ending.TheVariants.{Done, Usage, ReadFault, WriteFault, Text, Audit, NotYet, LivesSpent, ScheduleShort, OutOfMemory, TooLong}
 
 -- the source before and after a call
 pub record Input : Type 0 where
@@ -66,6 +66,8 @@ FailsToLoad input Usage = ⊥
 FailsToLoad input WriteFault = ⊥
 FailsToLoad input (Audit fault) = ⊥
 FailsToLoad input NotYet = ⊥
+FailsToLoad input (LivesSpent k l c) = ⊥
+FailsToLoad input (ScheduleShort pending) = ⊥
 
 abbrev pub Loads : Input → Result (RawGraph × List Strike) Ending → Type 0
 Loads input (Ok r) = IsLoaded input r.0 r.1 × IsWithinLimits (file_with r.0 r.1)

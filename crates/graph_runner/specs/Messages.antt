@@ -1,6 +1,9 @@
 -- The words that tell faults of texts and graphs.
 use Rattle.std.specs.Prelude.{ℕ, List, [], ◌++◌, codes}
 use Rattle.text_lines.specs.Fields.{field_text}
+use Rattle.graph_model.specs.declared.key.Key.{Key}
+use Rattle.graph_model.specs.declared.record.Cause.{Cause}
+use Rattle.run_records.specs.Text.{cause_text}
 use Rattle.formula_text.specs.declared.fault.FormulaFault.{FormulaFault}
 use Rattle.formula_text.specs.declared.fault.FormulaFault.TheVariants as formula
 use Rattle.graph_reader.specs.declared.fault.TextFault.{TextFault}
@@ -54,3 +57,7 @@ audit_text (audit.VersionOrder b v) = block_text b (codes ": the writer of versi
 audit_text (audit.ReaderNotBefore r w) = task_text r.0 (codes " reads what task ") w.0 (codes " overwrites and is not before it")
 audit_text (audit.InputCount t i) = task_text t.0 (codes " has no input ") i []
 audit_text audit.OutOfMemory = codes "out of memory"
+
+-- which life of a task was the last, and what ended it
+abbrev pub spent_text : Key → ℕ → Cause → List ℕ
+spent_text key life cause = task_text key.0 (codes " has no life after ") life (codes ": ") ++ cause_text cause

@@ -1,6 +1,5 @@
 -- What each command makes of what the source holds.
-use Rattle.std.specs.Prelude.{◌≡◌, ◌≢◌, ℕ, ℤ, List, [], ◌∷◌, ◌++◌, length, map, codes, All, Result, Ok, Err}
-use Rattle.std.specs.Fmt.{signed_decimal}
+use Rattle.std.specs.Prelude.{◌≡◌, ◌≢◌, ℕ, ℤ, false, List, [], ◌∷◌, ◌++◌, length, map, codes, All, Result, Ok, Err}
 use Rattle.std.specs.List.Sorted.{IsPermutation}
 use Rattle.serde_json.specs.Written.{compact_text}
 use Rattle.text_lines.specs.Fields.{field_text}
@@ -16,36 +15,15 @@ use Rattle.raw_graph.specs.declared.raw.RawTask.{RawTask}
 use Rattle.graph_reader.specs.Written.{file_data}
 use Rattle.audit_checks.specs.Tasks.{key_of}
 use Rattle.audit_checks.specs.Accepted.{IsAccepted}
-use Rattle.audit_checks.specs.Faults.{IsFault}
-use Rattle.audit_checks.specs.declared.fault.AuditFault.{AuditFault}
-use Rattle.audit_checks.specs.declared.fault.AuditFault.TheVariants as audit
 use Rattle.acyclic_audit.specs.Meaning.{IsGraphOf}
 use Rattle.acyclic_audit.specs.Reaching.{IsReachedCount}
 use Rattle.serial_run.specs.Computing.{ComputesEach, computed_of}
+use Rattle.run_records.specs.Text.{IsReport}
+use Rattle.worker_pool.specs.Calling.{all_calls}
 use Rattle.graph_runner.specs.Loading.{Input, IsLoaded, FailsToLoad}
-use Rattle.graph_runner.specs.Notes.{all_of}
+use Rattle.graph_runner.specs.Opening.{FailsToAccept}
 use Rattle.graph_runner.specs.declared.ending.Ending.{Ending}
-use Rattle.graph_runner.specs.declared.ending.Ending.TheVariants.{Done, Usage, ReadFault, WriteFault, Text, Audit, NotYet, OutOfMemory, TooLong}
-
--- the source's graph is not accepted, and this is the first refusal
-pub record IsRefused (input : Input) (fault : AuditFault) : Type 0 where
-  pub raw : RawGraph
-  pub plan : List Strike
-  pub loaded : IsLoaded input raw plan
-  pub memory : fault ≢ audit.OutOfMemory
-  pub stands : IsFault raw.tasks.items raw.sink.0 fault
-
--- why there is no accepted graph
-abbrev pub FailsToAccept : Input → Ending → Type 0
-FailsToAccept input (Audit fault) = IsRefused input fault
-FailsToAccept input ReadFault = FailsToLoad input ReadFault
-FailsToAccept input TooLong = FailsToLoad input TooLong
-FailsToAccept input (Text fault) = FailsToLoad input (Text fault)
-FailsToAccept input OutOfMemory = Unit {0}
-FailsToAccept input Done = ⊥
-FailsToAccept input Usage = ⊥
-FailsToAccept input WriteFault = ⊥
-FailsToAccept input NotYet = ⊥
+use Rattle.graph_runner.specs.declared.ending.Ending.TheVariants.{Done, Usage, ReadFault, WriteFault, Text, Audit, NotYet, LivesSpent, ScheduleShort, OutOfMemory, TooLong}
 
 -- ---- check
 
@@ -96,20 +74,16 @@ Prints input (Err ending) = FailsToLoad input ending
 abbrev pub IsValuation : List RawTask → (ℕ → ℤ) → Type 0
 IsValuation ts value = All (λ t. value (key_of t) ≡ value_of (tree t.formula) (map value t.inputs)) ts
 
--- the line that tells a value
-abbrev pub value_text : ℤ → List ℕ
-value_text value = codes "value " ++ signed_decimal value ++ 10 ∷ []
-
 -- each task that the sink needs was computed once, in its first life, and no other was; the probes were told just that;
--- and the text tells the sink's serial value
+-- and the text is the report of the sink's serial value
 pub record IsRun (raw : RawGraph) (records : List Record) (news : List (List Note)) (text : List ℕ) : Type 0 where
   pub graph : Graph
   pub is : IsGraphOf raw.tasks.items raw.sink.0 graph
   pub computed : ComputesEach graph records
-  pub noted : IsPermutation (all_of news) (computed_of records)
+  pub noted : IsPermutation (all_calls news) (computed_of records)
   pub value : ℕ → ℤ
   pub serial : IsValuation raw.tasks.items value
-  pub says : text ≡ value_text (value raw.sink.0)
+  pub says : IsReport (value raw.sink.0 ∷ []) records false text
 
 -- the source holds an accepted graph without strikes, and it was run
 pub record IsServed (input : Input) (records : List Record) (news : List (List Note)) (text : List ℕ) : Type 0 where
@@ -129,7 +103,7 @@ pub record IsStruck (input : Input) : Type 0 where
 -- no task was computed
 pub record IsIdle (records : List Record) (news : List (List Note)) : Type 0 where
   pub unrecorded : records ≡ []
-  pub untold : all_of news ≡ []
+  pub untold : all_calls news ≡ []
 
 abbrev pub Runs : Input → List Record → List (List Note) → Result (List ℕ) Ending → Type 0
 Runs input records news (Ok text) = IsServed input records news text
@@ -142,3 +116,5 @@ Runs input records news (Err (Text fault)) = FailsToAccept input (Text fault) ×
 Runs input records news (Err Done) = ⊥
 Runs input records news (Err Usage) = ⊥
 Runs input records news (Err WriteFault) = ⊥
+Runs input records news (Err (LivesSpent k l c)) = ⊥
+Runs input records news (Err (ScheduleShort pending)) = ⊥

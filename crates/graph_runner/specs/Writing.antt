@@ -4,7 +4,7 @@ use Rattle.io_edge.specs.Bytes.{Added}
 use Rattle.io_edge.specs.Causes.{Rose}
 use Rattle.graph_runner.specs.Endings.{status_of, message_of}
 use Rattle.graph_runner.specs.declared.ending.Ending.{Ending}
-use Rattle.graph_runner.specs.declared.ending.Ending.TheVariants.{Done, Usage, ReadFault, WriteFault, Text, Audit, NotYet, OutOfMemory, TooLong}
+use Rattle.graph_runner.specs.declared.ending.Ending.TheVariants.{Done, Usage, ReadFault, WriteFault, Text, Audit, NotYet, LivesSpent, ScheduleShort, OutOfMemory, TooLong}
 
 -- the sink before and after a call
 pub record Output : Type 0 where
@@ -34,6 +34,8 @@ Delivers output text ReadFault = ⊥
 Delivers output text (Text fault) = ⊥
 Delivers output text (Audit fault) = ⊥
 Delivers output text NotYet = ⊥
+Delivers output text (LivesSpent k l c) = ⊥
+Delivers output text (ScheduleShort pending) = ⊥
 Delivers output text TooLong = ⊥
 
 -- what a command comes to that has made a text to be written, or that ends without one

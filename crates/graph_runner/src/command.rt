@@ -1,14 +1,16 @@
-ghost use Rattle.std.specs.Prelude.{◌≡◌, List, length, map, string_bytes};
+ghost use Rattle.std.specs.Prelude.{◌≡◌, ℕ, [], List, length, map, string_bytes};
 ghost use Rattle.graph_model.specs.Notes.{Note};
-ghost use Rattle.graph_runner.specs.Commands.{ChecksCome, Comes, IsServing};
+ghost use Rattle.command_words.specs.Meaning.{StandsFor, asked};
+ghost use Rattle.graph_runner.specs.Commands.{ChecksCome, Comes, Makes, Shows, WordsMake, WordsShow};
 ghost use Rattle.graph_runner.specs.Notes.{Told};
 ghost use Rattle.graph_runner.specs.Writing.{Tells};
 ghost use Rattle.graph_runner.specs.declared.ending.Ending.{Ending};
 
 use crate::ending::Ending;
-use crate::finish::{CheckEnd, finish, told};
-use crate::serve::{checked, printed, ran};
-use crate::words::{Command, command_of, is_run};
+use crate::finish::{CheckEnd, finish};
+use crate::serve::{checked, printed, ran, replayed};
+use crate::terms::terms_of;
+use command_words::{Command, command_of};
 use graph_model::{Probe, Record, Text};
 use io_edge::{Sink, Source};
 use std::alloc::Global;
@@ -20,10 +22,34 @@ pub struct End<P> {
     pub status: u8,
     /// The line for standard error, with its newline; empty with the statuses 0 and 8.
     pub message: Text,
-    /// What was done, in the order in which it was done.
+    /// What was done, in no order.
     pub records: Vec<Record>,
     /// The probes that were handed in, in their order.
     pub probes: Vec<P>,
+}
+
+// What a command makes that runs nothing. All but `check` and `print` are a wrong use here.
+fn shown<S: Source>(alloc: Global, command: &Command, source: &mut S) -> Result<Text, Ending>
+    ensures { Shows (asked command.now) (record { left = S.left source.old; left_after = S.left source.new; faults = S.faults source.old; faults_after = S.faults source.new }) result }
+{
+    match command {
+        Command::Check => checked(alloc, source),
+        Command::Print => printed(alloc, source),
+        Command::Run { .. } => Err(Ending::Usage),
+        Command::Replay { .. } => Err(Ending::Usage),
+        Command::Paths { .. } => Err(Ending::Usage),
+        Command::Drill { .. } => Err(Ending::Usage),
+    }
+}
+
+// What the words make of the source, where they check or print.
+fn words_shown<S: Source>(alloc: Global, words: &[String], source: &mut S) -> Result<Text, Ending>
+    ensures { WordsShow (map string_bytes words.now) (record { left = S.left source.old; left_after = S.left source.new; faults = S.faults source.old; faults_after = S.faults source.new }) result }
+{
+    match command_of(alloc, words)? {
+        Some(command) => shown(alloc, &command, source),
+        None => Err(Ending::Usage),
+    }
 }
 
 /// Checks or prints a graph file. The words are those of the command line without the program's name.
@@ -38,43 +64,55 @@ pub fn check_command<S: Source, K: Sink>(
         (record { left = S.left source.old; left_after = S.left source.new; faults = S.faults source.old; faults_after = S.faults source.new })
         (record { written = K.written sink.old; written_after = K.written sink.new; faults = K.faults sink.old; faults_after = K.faults sink.new }) came }
 {
-    match command_of(words) {
-        Some(Command::Check) => finish(alloc, checked(alloc, source), sink),
-        Some(Command::Print) => finish(alloc, printed(alloc, source), sink),
-        Some(Command::Run) => told(alloc, &Ending::Usage),
-        None => told(alloc, &Ending::Usage),
+    let made = words_shown(alloc, words, source);
+    finish(alloc, made, sink)
+}
+
+// What a command makes of the source.
+fn served<S: Source, P: Probe + Drop>(
+    alloc: Global,
+    command: &Command,
+    source: &mut S,
+    probes: &mut Vec<P>,
+    records: &mut Vec<Record>,
+) -> Result<Text, Ending>
+    requires words { (words : List (List ℕ)) × StandsFor words (asked command.now) }
+    requires probes { length probes.old.items ≡ 64 }
+    requires records { records.old.items ≡ [] }
+    ensures { (news : List (List Note)) × Told P.notes probes.old.items probes.new.items news
+        × Makes (asked command.now) (record { left = S.left source.old; left_after = S.left source.new; faults = S.faults source.old; faults_after = S.faults source.new }) records.new.items news result }
+{
+    if let Some(terms) = terms_of(command) {
+        return replayed(alloc, source, &terms, probes, records);
+    }
+    match command {
+        Command::Run { .. } => ran(alloc, source, probes, records),
+        _ => shown(alloc, command, source),
     }
 }
 
-// Runs the graph that the source holds.
-fn run<S: Source, K: Sink, P: Probe + Drop>(
+// What the words make of the source.
+fn words_served<S: Source, P: Probe + Drop>(
     alloc: Global,
+    words: &[String],
     source: &mut S,
-    sink: &mut K,
-    probes: Vec<P>,
-) -> End<P>
-    requires { length probes.items ≡ 64 }
-    ensures { (came : Ending) × (news : List (List Note)) × Tells result.status result.message came
-        × Told P.notes probes.items result.probes.items news
-        × IsServing (record { left = S.left source.old; left_after = S.left source.new; faults = S.faults source.old; faults_after = S.faults source.new })
-        (record { written = K.written sink.old; written_after = K.written sink.new; faults = K.faults sink.old; faults_after = K.faults sink.new })
-        result.records.items news came }
+    probes: &mut Vec<P>,
+    records: &mut Vec<Record>,
+) -> Result<Text, Ending>
+    requires probes { length probes.old.items ≡ 64 }
+    requires records { records.old.items ≡ [] }
+    ensures { (news : List (List Note)) × Told P.notes probes.old.items probes.new.items news
+        × WordsMake (map string_bytes words.now) (record { left = S.left source.old; left_after = S.left source.new; faults = S.faults source.old; faults_after = S.faults source.new }) records.new.items news result }
 {
-    let mut probes = probes;
-    let mut records = Vec::new(alloc);
-    let made = ran(alloc, source, &mut probes, &mut records);
-    let CheckEnd { status, message } = finish(alloc, made, sink);
-    End {
-        status,
-        message,
-        records,
-        probes,
+    match command_of(alloc, words)? {
+        Some(command) => served(alloc, &command, source, probes, records),
+        None => Err(Ending::Usage),
     }
 }
 
 /// Runs, checks or prints a graph file. The words are those of the command line without the program's name.
 ///
-/// The first probe is told each task that a run computes. All probes come back in their order.
+/// Each of the first probes is told what one worker computes. All probes come back in their order.
 pub fn run_command<S: Source, K: Sink, P: Probe + Drop>(
     alloc: Global,
     words: &[String],
@@ -90,14 +128,14 @@ pub fn run_command<S: Source, K: Sink, P: Probe + Drop>(
         (record { written = K.written sink.old; written_after = K.written sink.new; faults = K.faults sink.old; faults_after = K.faults sink.new })
         result.records.items news came }
 {
-    if is_run(words) {
-        return run(alloc, source, sink, probes);
-    }
-    let CheckEnd { status, message } = check_command(alloc, words, source, sink);
+    let mut probes = probes;
+    let mut records = Vec::new(alloc);
+    let made = words_served(alloc, words, source, &mut probes, &mut records);
+    let CheckEnd { status, message } = finish(alloc, made, sink);
     End {
         status,
         message,
-        records: Vec::new(alloc),
+        records,
         probes,
     }
 }

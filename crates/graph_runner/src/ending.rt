@@ -1,13 +1,14 @@
 ghost use Rattle.std.specs.Prelude.{◌≡◌, ◌++◌, ◌∷◌, [], IfOk, OnOk};
-ghost use Rattle.graph_runner.specs.Endings.{status_of, message_of};
+ghost use Rattle.graph_runner.specs.Endings.{status_of, message_of, run_ending};
 ghost use Rattle.graph_runner.specs.declared.ending.Ending.TheVariants.{OutOfMemory};
 
-use crate::messages::{put_audit_fault, put_text_fault};
+use crate::messages::{put_audit_fault, put_round, put_spent, put_text_fault};
 use audit_checks::AuditFault;
-use graph_model::Text;
+use graph_model::{Cause, Key, Text};
 use graph_reader::TextFault;
 use std::alloc::{AllocError, Global};
 use text_lines::put;
+use worker_pool::Why;
 
 /// What a command comes to.
 #[derive(Debug, Drop)]
@@ -22,6 +23,10 @@ pub enum Ending {
     Audit { fault: AuditFault },
     /// A plan of faults is not run yet.
     NotYet,
+    /// The task may have no life after this one, which was struck.
+    LivesSpent { key: Key, life: u32, cause: Cause },
+    /// The turns were over with so much left to do.
+    ScheduleShort { pending: u64 },
     OutOfMemory,
     TooLong,
 }
@@ -31,6 +36,17 @@ impl From<AllocError> for Ending {
 
     fn from(_e: AllocError) -> Ending {
         Ending::OutOfMemory
+    }
+}
+
+/// What the end of a run without the value comes to.
+pub(crate) fn run_ending(why: Why) -> Ending
+    ensures { result ≡ run_ending why }
+{
+    match why {
+        Why::OutOfMemory => Ending::OutOfMemory,
+        Why::LivesSpent { key, life, cause } => Ending::LivesSpent { key, life, cause },
+        Why::ScheduleShort { pending } => Ending::ScheduleShort { pending },
     }
 }
 
@@ -46,13 +62,15 @@ impl Ending {
             Ending::WriteFault => 4,
             Ending::Text { .. } | Ending::NotYet => 5,
             Ending::Audit { .. } => 6,
+            Ending::LivesSpent { .. } => 7,
             Ending::OutOfMemory => 8,
             Ending::TooLong => 9,
+            Ending::ScheduleShort { .. } => 10,
         }
     }
 
     // Appends the message.
-    fn put(&self, text: &mut Vec<u8>) -> Result<(), AllocError>
+    fn put(&self, alloc: Global, text: &mut Vec<u8>) -> Result<(), AllocError>
         ensures { OnOk result (text.new.items ≡ text.old.items ++ message_of self.now) }
     {
         match self {
@@ -72,6 +90,14 @@ impl Ending {
                 put(text, "\n")
             }
             Ending::NotYet => put(text, "not supported yet\n"),
+            Ending::LivesSpent { key, life, cause } => {
+                put_spent(alloc, text, *key, *life, cause)?;
+                put(text, "\n")
+            }
+            Ending::ScheduleShort { pending } => {
+                put_round(text, "schedule ended with ", *pending, " pending")?;
+                put(text, "\n")
+            }
             Ending::TooLong => put(text, "input is longer than 67108864 bytes\n"),
         }
     }
@@ -81,7 +107,7 @@ impl Ending {
         ensures { IfOk result (λ text. text ≡ message_of self.now) }
     {
         let mut text = Vec::new(alloc);
-        self.put(&mut text)?;
+        self.put(alloc, &mut text)?;
         Ok(Text::from_vec(text))
     }
 }

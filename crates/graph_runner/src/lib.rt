@@ -8,7 +8,8 @@ mod kernel;
 mod load;
 mod messages;
 mod serve;
-mod words;
+mod terms;
+mod workers;
 
 pub use command::{End, check_command, run_command};
 pub use ending::Ending;

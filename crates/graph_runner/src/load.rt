@@ -1,9 +1,16 @@
+//! From a source to a graph and a plan.
+
 ghost use Rattle.std.specs.Prelude.{◌≡◌, ◌≢◌};
+ghost use Rattle.raw_graph.specs.Graph.{graph_of};
+ghost use Rattle.raw_graph.specs.Limits.{IsGraphWithin};
 ghost use Rattle.graph_reader.specs.declared.fault.TextFault.TheVariants as text;
+ghost use Rattle.graph_runner.specs.Accepting.{Accepts};
 ghost use Rattle.graph_runner.specs.Loading.{Loads};
-ghost use Rattle.graph_runner.specs.Endings.{text_ending};
+ghost use Rattle.graph_runner.specs.Opening.{Opens};
+ghost use Rattle.graph_runner.specs.Endings.{audit_ending, text_ending};
 
 use crate::ending::Ending;
+use acyclic_audit::{AuditFault, FileGraph, audit};
 use graph_model::FaultPlan;
 use graph_reader::{TextFault, read_graph};
 use io_edge::{ReadEnd, Source, read_all};
@@ -19,6 +26,16 @@ fn text_ending(fault: TextFault) -> Ending
     match fault {
         TextFault::OutOfMemory => Ending::OutOfMemory,
         fault => Ending::Text { fault },
+    }
+}
+
+// What a refusal of the graph comes to.
+fn audit_ending(fault: AuditFault) -> Ending
+    ensures { result ≡ audit_ending fault }
+{
+    match fault {
+        AuditFault::OutOfMemory => Ending::OutOfMemory,
+        fault => Ending::Audit { fault },
     }
 }
 
@@ -39,4 +56,27 @@ pub(crate) fn load<S: Source>(
         Ok(file) => Ok(file),
         Err(fault) => Err(text_ending(fault)),
     }
+}
+
+// The graph as a task graph, where it is accepted.
+fn accept(alloc: Global, raw: RawGraph) -> Result<FileGraph, Ending>
+    requires { IsGraphWithin (graph_of raw) }
+    ensures { Accepts raw result }
+{
+    match audit(alloc, raw) {
+        Ok(graph) => Ok(graph),
+        Err(fault) => Err(audit_ending(fault)),
+    }
+}
+
+/// The accepted graph and the plan that the source holds.
+pub(crate) fn open<S: Source>(
+    alloc: Global,
+    source: &mut S,
+) -> Result<(FileGraph, FaultPlan), Ending>
+    ensures { Opens (record { left = S.left source.old; left_after = S.left source.new; faults = S.faults source.old; faults_after = S.faults source.new }) result }
+{
+    let (raw, plan) = load(alloc, source)?;
+    let graph = accept(alloc, raw)?;
+    Ok((graph, plan))
 }

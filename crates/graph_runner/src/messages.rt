@@ -1,13 +1,15 @@
 //! The words that tell faults of texts and graphs.
 
 ghost use Rattle.std.specs.Prelude.{◌≡◌, ◌++◌, OnOk};
-ghost use Rattle.graph_runner.specs.Messages.{audit_text, block_text, formula_text, round_text, shown_fault, task_text};
+ghost use Rattle.run_records.specs.Text.{cause_text};
+ghost use Rattle.graph_runner.specs.Messages.{audit_text, block_text, formula_text, round_text, shown_fault, spent_text, task_text};
 
 use audit_checks::AuditFault;
 use formula_text::FormulaFault;
-use graph_model::Text;
+use graph_model::{Cause, Key, Text};
 use graph_reader::TextFault;
-use std::alloc::AllocError;
+use run_records::cause_text;
+use std::alloc::{AllocError, Global};
 use text_lines::{put, put_field};
 
 fn put_formula(text: &mut Vec<u8>, fault: FormulaFault) -> Result<(), AllocError>
@@ -89,8 +91,13 @@ fn put_task_fault(
     put(text, end)
 }
 
-// Appends words round a number.
-fn put_round(text: &mut Vec<u8>, words: &str, number: u64, end: &str) -> Result<(), AllocError>
+/// Appends words round a number.
+pub(crate) fn put_round(
+    text: &mut Vec<u8>,
+    words: &str,
+    number: u64,
+    end: &str,
+) -> Result<(), AllocError>
     ensures { OnOk result (text.new.items ≡ text.old.items ++ round_text words.now number end.now) }
 {
     put_field(text, words, number)?;
@@ -139,4 +146,25 @@ pub(crate) fn put_audit_fault(text: &mut Vec<u8>, fault: AuditFault) -> Result<(
         }
         AuditFault::OutOfMemory => put(text, "out of memory"),
     }
+}
+
+// Appends why a life was replaced.
+fn put_cause(alloc: Global, text: &mut Vec<u8>, cause: &Cause) -> Result<(), AllocError>
+    ensures { OnOk result (text.new.items ≡ text.old.items ++ cause_text cause.now) }
+{
+    text.extend_from_slice(cause_text(alloc, cause)?.as_slice())
+}
+
+/// Appends which life of a task was the last, and what ended it.
+pub(crate) fn put_spent(
+    alloc: Global,
+    text: &mut Vec<u8>,
+    key: Key,
+    life: u32,
+    cause: &Cause,
+) -> Result<(), AllocError>
+    ensures { OnOk result (text.new.items ≡ text.old.items ++ spent_text key life cause.now) }
+{
+    put_task_fault(text, key.0, " has no life after ", u64::from(life), ": ")?;
+    put_cause(alloc, text, cause)
 }

@@ -1,49 +1,29 @@
 //! What each command makes of what a source holds.
 
-ghost use Rattle.std.specs.Prelude.{◌≡◌, ◌<◌, [], ◌++◌, ◌∷◌, List, length, vec_len, IfOk, OnOk};
+ghost use Rattle.std.specs.Prelude.{◌≡◌, ◌<◌, ◌≤◌, [], ◌++◌, ◌∷◌, List, length, vec_len, false, IfOk, OnOk};
 ghost use Rattle.graph_model.specs.Notes.{Note};
-ghost use Rattle.raw_graph.specs.Graph.{graph_of};
-ghost use Rattle.raw_graph.specs.Limits.{IsGraphWithin};
 ghost use Rattle.acyclic_audit.specs.Reaching.{IsReachedCount};
 ghost use Rattle.acyclic_audit.specs.Views.{graph};
-ghost use Rattle.graph_runner.specs.Accepting.{Accepts};
-ghost use Rattle.graph_runner.specs.Endings.{audit_ending};
-ghost use Rattle.graph_runner.specs.Notes.{Told};
-ghost use Rattle.graph_runner.specs.Serving.{line_of, check_text, value_text, Checks, Prints, Runs};
+ghost use Rattle.run_records.specs.Text.{IsReport};
 ghost use Rattle.graph_runner.specs.Evaluating.{Evaluates};
+ghost use Rattle.graph_runner.specs.Notes.{Told};
+ghost use Rattle.graph_runner.specs.Replaying.{Replays};
+ghost use Rattle.graph_runner.specs.Serving.{line_of, check_text, Checks, Prints, Runs};
+ghost use Rattle.graph_runner.specs.Terms.{AreWithin};
 
-use crate::ending::Ending;
+use crate::ending::{Ending, run_ending};
 use crate::kernel::FormulaKernel;
-use crate::load::load;
-use acyclic_audit::{AuditFault, FileGraph, audit};
+use crate::load::{load, open};
+use crate::terms::Terms;
+use crate::workers::run_by_workers;
+use acyclic_audit::FileGraph;
 use graph_model::{Probe, Record, TaskGraph, Text};
 use graph_reader::write_graph;
 use io_edge::Source;
-use raw_graph::RawGraph;
+use run_records::report;
 use serial_run::evaluate;
 use std::alloc::{AllocError, Global};
 use text_lines::{put, put_field};
-
-// What a refusal of the graph comes to.
-fn audit_ending(fault: AuditFault) -> Ending
-    ensures { result ≡ audit_ending fault }
-{
-    match fault {
-        AuditFault::OutOfMemory => Ending::OutOfMemory,
-        fault => Ending::Audit { fault },
-    }
-}
-
-// The graph as a task graph, where it is accepted.
-fn accept(alloc: Global, raw: RawGraph) -> Result<FileGraph, Ending>
-    requires { IsGraphWithin (graph_of raw) }
-    ensures { Accepts raw result }
-{
-    match audit(alloc, raw) {
-        Ok(graph) => Ok(graph),
-        Err(fault) => Err(audit_ending(fault)),
-    }
-}
 
 // Words, a number and a newline.
 fn put_line(text: &mut Vec<u8>, words: &str, number: u64) -> Result<(), AllocError>
@@ -75,8 +55,7 @@ fn check_lines(
 pub(crate) fn checked<S: Source>(alloc: Global, source: &mut S) -> Result<Text, Ending>
     ensures { Checks (record { left = S.left source.old; left_after = S.left source.new; faults = S.faults source.old; faults_after = S.faults source.new }) result }
 {
-    let (raw, plan) = load(alloc, source)?;
-    let graph = accept(alloc, raw)?;
+    let (graph, plan) = open(alloc, source)?;
     let reachable = graph.reachable(alloc)?;
     let text = check_lines(
         alloc,
@@ -98,14 +77,6 @@ pub(crate) fn printed<S: Source>(alloc: Global, source: &mut S) -> Result<Text, 
     Ok(text)
 }
 
-// The line that tells a value.
-fn value_line(alloc: Global, value: i64) -> Result<Text, AllocError>
-    ensures { IfOk result (λ text. text ≡ value_text value) }
-{
-    let line = format!(in alloc; "value {value}\n")?;
-    Ok(Text::from_vec(line.into_bytes()))
-}
-
 // The sink's value. The first probe is told each task that is computed.
 fn value_of_sink<P: Probe + Drop>(
     alloc: Global,
@@ -125,7 +96,7 @@ fn value_of_sink<P: Probe + Drop>(
     value
 }
 
-/// Runs the graph that the source holds.
+/// Runs the graph that the source holds on one thread.
 pub(crate) fn ran<S: Source, P: Probe + Drop>(
     alloc: Global,
     source: &mut S,
@@ -137,12 +108,34 @@ pub(crate) fn ran<S: Source, P: Probe + Drop>(
     ensures { (news : List (List Note)) × Told P.notes probes.old.items probes.new.items news
         × Runs (record { left = S.left source.old; left_after = S.left source.new; faults = S.faults source.old; faults_after = S.faults source.new }) records.new.items news result }
 {
-    let (raw, plan) = load(alloc, source)?;
-    let graph = accept(alloc, raw)?;
+    let (graph, plan) = open(alloc, source)?;
     if plan.len() > 0 {
         return Err(Ending::NotYet);
     }
     let value = value_of_sink(alloc, &graph, probes, records)?;
-    let text = value_line(alloc, value)?;
+    let text = report(alloc, &[value], &[], false)?;
+    Ok(text)
+}
+
+/// Runs the graph that the source holds by workers, with the plan of faults that it holds.
+pub(crate) fn replayed<S: Source, P: Probe + Drop>(
+    alloc: Global,
+    source: &mut S,
+    terms: &Terms<'_>,
+    probes: &mut Vec<P>,
+    records: &mut Vec<Record>,
+) -> Result<Text, Ending>
+    requires terms { AreWithin terms.now }
+    requires probes { terms.now.workers ≤ vec_len probes.old }
+    requires records { records.old.items ≡ [] }
+    ensures { (news : List (List Note)) × Told P.notes probes.old.items probes.new.items news
+        × Replays (record { left = S.left source.old; left_after = S.left source.new; faults = S.faults source.old; faults_after = S.faults source.new }) terms.now.lives terms.now.detail records.new.items news result }
+{
+    let (graph, plan) = open(alloc, source)?;
+    let value = match run_by_workers(alloc, &graph, &plan, terms, probes, records) {
+        Ok(value) => value,
+        Err(why) => return Err(run_ending(why)),
+    };
+    let text = report(alloc, value.as_slice(), records.as_slice(), terms.detail)?;
     Ok(text)
 }
