@@ -2,7 +2,24 @@
 
 use crate::command::{DIAMOND, Pace, WHOLE, answer_of};
 use graph_model::Text;
+use std::alloc::Global;
+use std::process::Abort;
 use std::test::Fail;
+
+// A text, how it is read and how the output is written, the status, the message's line, and what is written.
+type Paced<'a> = (&'a str, Pace, Pace, u8, &'a str, &'a str);
+
+fn compare_paced(rt: &impl Abort, alloc: Global, line: &str, case: Paced<'_>) -> Result<(), Fail> {
+    let (text, read, write, status, message, written) = case;
+    let bytes = Text::from_slice(alloc, text.as_bytes())?;
+    let end = answer_of(rt, alloc, line, bytes, read, write)?;
+    assert_eq!(rt; end.status, status, "{line} {text}");
+    // With the records, what is written begins with the same line.
+    if line != "run --records" || status != 0 {
+        assert!(rt; end.is(status, message, written), "{line} {text}");
+    }
+    Ok(())
+}
 
 #[test]
 fn reads_and_writes(rt: HostRuntime) -> Result<(), Fail> {
@@ -30,17 +47,9 @@ fn reads_and_writes(rt: HostRuntime) -> Result<(), Fail> {
             "",
         ),
     ];
-    for (text, read, write, status, message, written) in cases {
+    for case in cases {
         for line in ["run", "replay", "run --records"] {
-            let bytes = Text::from_slice(rt.alloc(), text.as_bytes())?;
-            let end = answer_of(&rt, rt.alloc(), line, bytes, read, write)?;
-            // With the records, what is written begins with the same line.
-            let all = line != "run --records" || status != 0;
-            assert!(rt;
-                !all || end.is(status, message, written),
-                "{line} {status} {written}"
-            );
-            assert_eq!(rt; end.status, status, "{line}");
+            compare_paced(&rt, rt.alloc(), line, case)?;
         }
     }
     Ok(())
