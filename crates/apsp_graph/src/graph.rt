@@ -3,6 +3,7 @@
 ghost use Rattle.std.specs.Prelude.{◌≡◌, ◌+◌, ◌-◌, ◌*◌, ◌/◌, ◌<◌, ◌≤◌, length};
 
 use graph_model::{Edge, Key, Kind, Place, TaskGraph};
+use lane_kernels::NONE;
 use path_tasks::{Task, key_of, task_of, task_total};
 
 /// The most vertices.
@@ -29,8 +30,9 @@ pub struct PathGraph {
 
 impl PathGraph {
     ghost use Rattle.path_tasks.specs.Keys.{task_of};
-    ghost use Rattle.apsp_graph.specs.Views.{sink_cells};
-    ghost use Rattle.path_tasks.specs.Paths.{tiles_of, path_graph};
+    ghost use Rattle.apsp_graph.specs.Blocked.{edge};
+    ghost use Rattle.apsp_graph.specs.Views.{graph, sink_cells};
+    ghost use Rattle.path_tasks.specs.Paths.{tiles_of};
     ghost use Rattle.path_tasks.specs.Tasks.{IsTask};
     ghost use Rattle.graph_model.specs.Graph.{IsTask as IsKey};
 
@@ -90,9 +92,25 @@ impl PathGraph {
         b * b * (side * side)
     }
 
+    // From a vertex to a vertex. From n on there are no edges, and the weight to oneself is 0.
+    pub(crate) fn edge(&self, from: u32, to: u32) -> i64
+        ensures { result ≡ edge self.now.n self.now.weights.items from to }
+    {
+        if from < self.n && to < self.n {
+            match self.weights[(from * self.n + to) as usize] {
+                Some(weight) => i64::from(weight),
+                None => NONE,
+            }
+        } else if from == to {
+            0
+        } else {
+            NONE
+        }
+    }
+
     // The task of a key.
-    fn task_at(&self, key: Key) -> Task
-        requires { IsKey (path_graph (tiles_of self.now.n self.now.side) self.now.side) key.0 }
+    pub(crate) fn task_at(&self, key: Key) -> Task
+        requires { IsKey (graph self.now) key.0 }
         ensures value { result ≡ task_of (tiles_of self.now.n self.now.side) key.0 }
         ensures known { IsTask (tiles_of self.now.n self.now.side) result }
     {
@@ -101,11 +119,12 @@ impl PathGraph {
 }
 
 impl TaskGraph for PathGraph {
-    ghost use Rattle.path_tasks.specs.Paths.{tiles_of, path_graph};
+    ghost use Rattle.path_tasks.specs.Paths.{tiles_of};
     ghost use Rattle.path_tasks.proofs.Lawful.{is_lawful};
     ghost use Rattle.path_tasks.proofs.Tiles.{tiles_some};
+    ghost use Rattle.apsp_graph.specs.Views.{graph as tasks_of};
 
-    ghost graph = { λ s. path_graph (tiles_of s.n s.side) s.side };
+    ghost graph = { λ s. tasks_of s };
 
     fn sink(&self) -> Key {
         Key(key_of(self.tiles(), Task::Sink))

@@ -1,7 +1,7 @@
-use crate::{MatrixFault, matrix_text, read_matrix};
+use crate::{MatrixFault, PathGraph, PathKernel, matrix_text, read_matrix};
+use graph_model::{Inputs, Kernel, Key, ListProbe};
+use lane_kernels::NONE as N;
 use std::test::Fail;
-
-const N: i64 = i64::MAX;
 
 const CASES: [(&str, Option<MatrixFault>); 24] = [
     ("3 2\n- 4 7\n- - 1\n- - -", None),
@@ -88,5 +88,21 @@ fn matrices(rt: HostRuntime) -> Result<(), Fail> {
     assert!(rt; text.len() < 100_000);
     let full = Some(MatrixFault::Fault { line: 4099 });
     assert_eq!(rt; read_matrix(alloc, &text).err(), full);
+    Ok(())
+}
+
+#[test]
+fn kernel(rt: HostRuntime) -> Result<(), Fail> {
+    let alloc = rt.alloc();
+    let weights = vec![in alloc; Some(0u32)]?;
+    let graph = PathGraph::new(1, 1, weights);
+    let mut kernel = PathKernel::new(&graph, ListProbe::new(alloc));
+    kernel.reserve(1)?;
+    let inputs = Inputs::new(alloc, 0, 0)?;
+    let mut cells = [7i64];
+    kernel.compute(Key(0), 1, &inputs, &mut cells);
+    assert_eq!(rt; cells[0], 0);
+    let probe = kernel.into_probe();
+    assert!(rt; probe.as_slice() == [(0, 1)].as_slice());
     Ok(())
 }

@@ -7,14 +7,12 @@ ghost use Rattle.apsp_graph.specs.Writing.{item_of, spaced, line_of, text_of};
 
 use crate::graph::PathGraph;
 use graph_model::Text;
+use lane_kernels::NONE;
 use std::alloc::{AllocError, Global};
 use text_lines::put_signed;
 
-// Stands for no walk.
-const NONE: i64 = i64::MAX;
-
 /// The text of the least weights, a line for each vertex and an item for each vertex that it leads to: the weight, or `-`
-/// where the cell is `i64::MAX`. The cells are those of the sink's block, row by row; those of no vertex are left out.
+/// where the cell is `NONE`. The cells are those of the sink's block, row by row; those of no vertex are left out.
 pub fn matrix_text(alloc: Global, graph: &PathGraph, cells: &[i64]) -> Result<Text, AllocError>
     requires { length cells.now ≡ sink_cells graph.now }
     ensures { IfOk result (λ t. t ≡ text_of (tiles_of graph.now.n graph.now.side * graph.now.side) graph.now.n cells.now) }

@@ -237,7 +237,8 @@ fn tile_succ(b: u32, t: u32, i: u32, j: u32, n: u32) -> End
     }
 }
 
-fn part_of(t: u32, i: u32, j: u32) -> Part
+/// What tile (i, j) is in round t.
+pub fn part_of(t: u32, i: u32, j: u32) -> Part
     ensures { result ≡ part t i j }
 {
     if t == 0 {

@@ -1,0 +1,11 @@
+pub mod Sums
+pub mod Floyds
+pub mod Blocks
+pub mod Products
+pub mod TilesAfter
+pub mod Whole
+pub mod Edges
+pub mod Ways
+pub mod Shorter
+pub mod Items
+pub mod Least

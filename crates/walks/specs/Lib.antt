@@ -1,0 +1,2 @@
+pub mod Floyd
+pub mod Walks
