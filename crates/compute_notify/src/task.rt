@@ -9,6 +9,9 @@ ghost use Rattle.compute_notify.specs.Stepping.{HasStepped};
 ghost use Rattle.compute_notify.specs.Tasks.{AllMayBeOver, HasFewLeft, HasSpace, HasTurned, Holds, IsNew, IsNext, MayBeOver, NewCalls, SameTask, TaskScratch, TaskTells, after_items, came_items, ends_run, items_rest, some_count, some_list, task_items, task_rest, task_turn};
 ghost use Rattle.compute_notify.specs.Working.{AfterHand, FitsTop};
 ghost use Rattle.core_state.specs.Asked.{InEachGraphOf};
+ghost use Rattle.core_state.specs.Graph.{Setting};
+ghost use Rattle.core_state.specs.declared.views.View.{View};
+ghost use Rattle.graph_model.specs.Graph.{Graph};
 ghost use Rattle.recovery.specs.Memory.{Remembers};
 
 use crate::item::{After, Came, Item};
@@ -197,6 +200,14 @@ impl Task {
         ensures rest { HasFewLeft result key life }
     {
         Task::of(alloc, Item::of_job(row, key, Job::Compute, life))
+    }
+
+    /// Whether a block is in hand, which one turn took and a later one gives back.
+    pub fn has_block(&self) -> bool
+        ensures none { result ≡ false → (g : Graph) (e : Setting) (v : View) → Holds g e v self.now → v.hands ≡ [] }
+        ensures some { result ≡ true → (g : Graph) (e : Setting) (v : View) → Holds g e v self.now → v.hands ≢ [] }
+    {
+        self.hand.is_some()
     }
 
     /// Makes room for what a turn adds. A refusal leaves the task as it was.

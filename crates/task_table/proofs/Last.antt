@@ -28,7 +28,7 @@ unfolding total_of
 none_total [] f none = refl
 none_total (v ∷ vs) f none = let a = none 0 v refl in let b = none_total vs f (λ j w there. none (suc j) w there) in omega (arith, a, b)
 
-only_total : (vs : List View) (i : ℕ) (v : View) (f : View → ℕ) → get_elem? vs i ≡ some v → ((j : ℕ) (w : View) → j ≢ i → get_elem? vs j ≡ some w → f w ≡ 0) → total_of vs f ≡ f v
+pub only_total : (vs : List View) (i : ℕ) (v : View) (f : View → ℕ) → get_elem? vs i ≡ some v → ((j : ℕ) (w : View) → j ≢ i → get_elem? vs j ≡ some w → f w ≡ 0) → total_of vs f ≡ f v
 unfolding total_of
 only_total [] i v f here none = absurd (some-ne-none v (sym here))
 only_total (x ∷ xs) zero v f here none = let a : f x ≡ f v = ap f (some-injective x v here) in let b = none_total xs f (λ j w there. none (suc j) w (λ q. absurd (omega (arith, q))) there) in omega (arith, a, b)

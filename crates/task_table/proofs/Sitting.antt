@@ -12,6 +12,7 @@ use Rattle.graph_model.specs.declared.record.Cause.{Cause}
 use Rattle.core_state.proofs.Own.Answers.{fresh_post, fresh_take, moved_of, ports_of, replacing_of}
 use Rattle.core_state.proofs.Own.Found.{found_of}
 use Rattle.core_state.proofs.Own.Sure.{sure_of}
+use Rattle.core_state.proofs.Seats.Shares.{parts_kept}
 use Rattle.core_steps.specs.Seat.{IsStep, key_event, last_after}
 use Rattle.core_steps.specs.declared.kinds.Touched.{Touched}
 use Rattle.core_steps.proofs.AnyCore.{IsViewOf}
@@ -42,7 +43,7 @@ pub shared_step : {S : Type 0} (setting : S → Setting) (view : S → View) (ma
     → shown t ≡ (word.at, word.found) → made t ≡ made s + 1 → last t ≡ last_after x word.found (last s) → happened s x word.found t → IsStep setting view made last shown happened lender others x s t
 shared_step setting view made last shown happened lender others x s t word p q h same_setting lent lent_now was now same_others shows one_more last_is stepped =
     step_of setting view made last shown happened lender others x s t word h.at_is (now ∙ h.view_is ∙ ap (after (setting s) x word.found) (sym was)) same_setting
-    (lent_now ∙ (λ j. h.same_seat j ∷ numbers (h.same_table j)) ∙ sym lent) same_others shows one_more last_is stepped
+    (let parts : q.view.parts ≡ p.view.parts = ap (λ (u : View). u.parts) h.view_is ∙ parts_kept (setting s) x word.found p.view in lent_now ∙ (λ j. parts j ∷ h.same_seat j ∷ numbers (h.same_table j)) ∙ sym lent) same_others shows one_more last_is stepped
     (subst (λ (u : View). IsFound (setting s) u (at x) word.found) (sym was) (step_found (setting s) x word p q h))
     (subst (λ (u : View). IsSure (setting s) u) (sym now) (step_sure (setting s) x word p q h))
 

@@ -1,5 +1,5 @@
 -- What one step tells the seat that makes it.
-use Rattle.std.specs.Prelude.{◌≡◌, ◌≢◌, ℕ, ◌<◌, ◌^◌, false, List, [], ◌∷◌, length, slice_index, slice_set, Option, Some, None}
+use Rattle.std.specs.Prelude.{◌≡◌, ◌≢◌, ℕ, ◌<◌, ◌^◌, ◌==◌, Bool, false, List, [], ◌∷◌, length, slice_index, slice_set, Option, Some, None}
 use mathlib.Core.Option.{some}
 use lib.ListN.{get_elem?}
 use Rattle.atomic_table.specs.Table.{Me}
@@ -8,7 +8,7 @@ use Rattle.core_state.specs.Change.{no_cells}
 use Rattle.core_state.specs.Effects.{after_computed}
 use Rattle.atomic_table.specs.Seated.{TableId}
 use Rattle.core_state.specs.Events.{Event, Event as event, after, at, Can}
-use Rattle.core_state.specs.Words.{place_of}
+use Rattle.core_state.specs.Words.{place_of, stop}
 use Rattle.core_state.specs.declared.block.BlockCells.{BlockCells}
 use Rattle.core_state.specs.declared.views.Hand.{Hand}
 use Rattle.core_state.specs.declared.views.View.{View}
@@ -73,6 +73,12 @@ pub record Made (e : Setting) (k l : ℕ) (me now : Mine) : Type 0 where
 pub record Looked (e : Setting) (word : ℕ) (me : Mine) (n : ℕ) (now : Mine) : Type 0 where
   pub same : now ≡ me
   pub glance : Glance e word me.0 n
+
+-- the table was stopped at a moment when a seat had this view, or was not
+pub record StopSeen (e : Setting) (v : View) (stopped : Bool) : Type 0 where
+  pub found : ℕ
+  pub glance : Glance e (place_of e.shape stop) v found
+  pub told_is : stopped ≡ (found == 1)
 
 -- the slots of the blocks in hand, whose blocks were taken out
 abbrev pub emptied : List Hand → List (ℕ × Option BlockCells)

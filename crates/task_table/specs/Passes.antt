@@ -49,9 +49,9 @@ pub record Sitter : Type 0 where
   pub pass : Passing
   pub steps : Trace
 
--- what who lent the table learns it by: which seat of which table it is
+-- what who lent the table learns it by: how many parts its seat has, and which seat of which table it is
 abbrev pub lender_of : Passing → List ℕ
-lender_of p = p.seat ∷ numbers p.table
+lender_of p = p.view.parts ∷ p.seat ∷ numbers p.table
 
 -- one step of such a seat; of the others it knows nothing
 abbrev pub IsSharedStep : Setting → Event → Sitter → Sitter → Type 0

@@ -7,7 +7,7 @@ ghost use Rattle.core_state.specs.Outcome.{entries};
 ghost use Rattle.core_state.specs.Words.{place_of, notify as notify_spot};
 ghost use Rattle.core_steps.specs.Kinds.{event_of, moves_block};
 ghost use Rattle.core_steps.specs.Serving.{Renews, work_life};
-ghost use Rattle.task_table.specs.Moments.{Glance};
+ghost use Rattle.task_table.specs.Moments.{Glance, StopSeen};
 ghost use Rattle.task_table.specs.Passes.{IsPass, IsPassStep, room_of};
 
 use crate::operations::{self, glance};
@@ -66,8 +66,8 @@ impl<C: Course> Pass<C> {
         self.store.reserve(other.store.as_slice().len())
     }
 
-    /// What holds of a pass at all times.
-    pub(crate) fn is_pass(&self)
+    /// Tells what holds of a pass at all times, and does nothing.
+    pub fn is_pass(&self)
         ensures { IsPass C.setting self.now }
     {
         let _ = &self.store;
@@ -167,6 +167,15 @@ impl<C: Course> Pass<C> {
     {
         let word = table.recovery_place(row);
         Recovery::of_word(glance(table.words(), &mut self.seat, word)).life + 1
+    }
+
+    /// Whether the table was stopped, by a load that is no step.
+    pub(crate) fn sees_stop(&mut self, table: &TaskTable<C>) -> bool
+        requires table { self.old.table ≡ table.now }
+        ensures seen { StopSeen C.setting self.old.view result }
+        ensures same { self.new ≡ self.old }
+    {
+        glance(table.words(), &mut self.seat, 1) == 1
     }
 
     /// Where a notify word of a row's task stands.

@@ -3,7 +3,7 @@ ghost use Rattle.std.proofs.Common.{refl};
 ghost use Rattle.std.specs.Prelude.{◌≡◌, []};
 ghost use Rattle.core_state.specs.Events.{Can};
 ghost use Rattle.core_steps.specs.Seat.{Explores, Awaits, known_of, key_event};
-ghost use Rattle.task_table.specs.Moments.{Moment};
+ghost use Rattle.task_table.specs.Moments.{Moment, StopSeen};
 ghost use Rattle.task_table.specs.Passes.{IsSharedStep, lender_of, room_of};
 
 use crate::pass::Pass;
@@ -44,6 +44,14 @@ impl<C: Course> TaskTable<C> {
 }
 
 impl<'a, C: Course> TableSeat<'a, C> {
+    /// Whether the table was stopped, by a load that is no step and of which the seat learns nothing.
+    pub fn sees_stop(&mut self) -> bool
+        ensures seen { StopSeen C.setting self.old.pass.view result }
+        ensures same { (self.new.pass ≡ self.old.pass) × (self.new.steps ≡ self.old.steps) }
+    {
+        self.pass.sees_stop(self.table)
+    }
+
     /// The pass, with all that the seat knows and holds.
     pub fn leave(self) -> Pass<C>
         ensures { result ≡ self.entry.pass }

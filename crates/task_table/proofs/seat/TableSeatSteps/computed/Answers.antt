@@ -6,7 +6,7 @@ use Rattle.task_table.proofs.seat.TableSeatSteps.computed.Goals as goal
 pub returns-clause-table : goal.returns-clause-table
 returns-clause-table g c = let same = c.computed.ensures.same in record {
   same_setting = refl;
-  same_lender = λ j. same.1 j ∷ numbers (same.0 j);
+  same_lender = λ j. (c.computed.ensures.view j).parts ∷ same.1 j ∷ numbers (same.0 j);
   same_others = refl;
   sure = sure_seated g.C.Course.setting _ c.computed.ensures.pass.seated;
 }

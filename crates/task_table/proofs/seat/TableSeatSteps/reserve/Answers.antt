@@ -6,7 +6,7 @@ use Rattle.task_table.proofs.seat.TableSeatSteps.reserve.Goals as goal
 pub returns-clause-table : goal.returns-clause-table
 returns-clause-table g c = let same = c.reserve.ensures.same in record {
   same_setting = refl;
-  same_lender = λ j. same.2 j ∷ numbers (same.1 j);
+  same_lender = λ j. (same.0 j).parts ∷ same.2 j ∷ numbers (same.1 j);
   same_others = refl;
   sure = sure_seated g.C.Course.setting _ c.reserve.ensures.pass.seated;
 }
