@@ -1,11 +1,11 @@
 -- The ledger of a run that begins: the worker is to explore the root.
-use Rattle.std.proofs.Common.{◌≡◌, ◌⊎◌, ℕ, ◌+◌, ◌<◌, ◌≤◌, eqb, List, [], ◌∷◌, Contains, ⊎_elim, inl, inr, arith, refl, ap, sym, ◌∙◌, subst}
+use Rattle.std.proofs.Common.{◌≡◌, ℕ, ◌<◌, eqb, [], ◌∷◌, Contains, ⊎_elim, inl, inr, arith, refl, ap, sym, ◌∙◌, subst}
 use mathlib.Core.Logic.{dite}
 use native.Mathlib.Decide.{ℕ_discrete}
 use Rattle.std.proofs.lemmas.List.Sums.{sum_by-cons}
 use Rattle.graph_model.specs.Graph.{Graph as TaskGraph}
 use Rattle.core_state.specs.Change.{Core}
-use Rattle.core_state.specs.Counts.{begun, count, hit, knows_row, noted}
+use Rattle.core_state.specs.Counts.{begun, hit, knows_row, noted}
 use Rattle.core_state.specs.Graph.{Setting}
 use Rattle.core_state.specs.Rooted.{root_key}
 use Rattle.core_state.specs.Rows.{HasKey}
@@ -22,7 +22,6 @@ use Rattle.compute_notify.specs.declared.task.Task.{Task}
 use Rattle.compute_notify.proofs.JobRests.{new_few}
 use Rattle.run_bounds.specs.Budgets.{Begun, IsCalmRun, begun_cost, is_begun}
 use Rattle.run_bounds.specs.Calm.{IsCalm}
-use Rattle.run_bounds.specs.Hinting.{HasHints}
 use Rattle.run_bounds.specs.Ledger.{Ledger}
 use Rattle.run_bounds.specs.Ledger.Doing.{works}
 use Rattle.run_bounds.proofs.Budgets.{same_begun}

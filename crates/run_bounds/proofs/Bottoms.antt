@@ -1,8 +1,7 @@
 -- A task's lines end with a credit, which no settling takes away: so the view has a line.
-use Rattle.std.proofs.Common.{◌≡◌, ℕ, Bool, true, false, cond, not, nat_lt, List, [], ◌∷◌, arith, refl, ap, sym, ◌∙◌, subst}
-use Rattle.core_state.specs.Effects.{after_computed}
+use Rattle.std.proofs.Common.{◌≡◌, ℕ, Bool, true, false, cond, nat_lt, List, [], ◌∷◌, refl, sym, subst}
 use Rattle.core_state.specs.Graph.{Graph, Plan, Setting}
-use Rattle.core_state.specs.Lines.{Line, HasLines, credit, flat, of, settled}
+use Rattle.core_state.specs.Lines.{Line, credit, flat, of, settled}
 use Rattle.core_state.specs.Views.{is_finished}
 use Rattle.core_state.specs.declared.block.BlockCells.{BlockCells}
 use Rattle.core_state.specs.declared.views.View.{View}
@@ -12,10 +11,9 @@ use Rattle.recovery.specs.Recovering.{phase_lines}
 use Rattle.recovery.specs.declared.recover.Phase.{Phase as Replacing}
 use Rattle.recovery.specs.declared.recover.Phase.TheVariants as replacing
 use Rattle.recovery.specs.declared.recover.Recover.{Recover}
-use Rattle.compute_notify.specs.Eventing.{computes, item_prepared, phase_event, plain_event, reading_event, writing_event}
+use Rattle.compute_notify.specs.Eventing.{item_prepared, phase_event, plain_event, reading_event, writing_event}
 use Rattle.compute_notify.specs.Items.{compute_lines, item_lines}
 use Rattle.compute_notify.specs.Tasks.{FromCredit, Holds, stacked, task_items}
-use Rattle.compute_notify.specs.declared.compute.Compute.{Compute}
 use Rattle.compute_notify.specs.declared.compute.Phase.{Phase}
 use Rattle.compute_notify.specs.declared.compute.Phase.TheVariants as phase
 use Rattle.compute_notify.specs.declared.duty.Duty.{Duty}

@@ -1,28 +1,17 @@
 -- What all jobs may cost that begin, and how many words are found moved after they were seen, in all.
-use Rattle.std.proofs.Common.{◌≡◌, ◌≢◌, ◌⊎◌, ℕ, zero, suc, ◌+◌, ◌*◌, ◌<◌, ◌≤◌, Bool, true, false, cond, eqb, ◌&&◌, List, [], ◌∷◌, length, Contains, ⊎_elim, inl, inr, arith, refl, ap, sym, ◌∙◌, subst}
-use mathlib.Core.Logic.{dite}
-use native.Mathlib.Decide.{ℕ_discrete}
+use Rattle.std.proofs.Common.{◌≡◌, ◌⊎◌, ℕ, suc, ◌+◌, ◌*◌, ◌<◌, ◌≤◌, Bool, true, false, cond, eqb, ◌&&◌, List, [], ◌∷◌, length, Contains, ⊎_elim, inl, inr, arith, refl, ap, sym, ◌∙◌, subst}
 use Rattle.std.specs.List.{AllByRecursion, sum_by}
-use Rattle.std.specs.List.Sorted.{IsStrictlyIncreasing}
 use Rattle.std.proofs.lemmas.Bool.Decides.{eqb_tells}
-use Rattle.std.proofs.lemmas.List.Kept.{AllPairs-from_increasing}
 use Rattle.std.proofs.lemmas.List.Sums.{sum_by-cons}
-use Rattle.std.proofs.lemmas.Nat.{mul-le}
-use Rattle.graph_model.specs.Graph.{Graph as TaskGraph, IsLawful, IsTask}
-use Rattle.graph_model.specs.Serial.{Outcome}
-use Rattle.core_state.specs.Asked.{IsCoreKey}
-use Rattle.core_state.specs.Counts.{bump, count, hit}
-use Rattle.core_state.specs.Graph.{Graph, Setting}
-use Rattle.core_state.specs.Rooted.{graph_of, root_key}
+use Rattle.core_state.specs.Counts.{count, hit}
+use Rattle.core_state.specs.Graph.{Setting}
 use Rattle.core_state.specs.Tests.{same_job, two}
 use Rattle.core_state.specs.declared.job.Job.{Job}
 use Rattle.core_state.specs.declared.job.Job.TheVariants as job
 use Rattle.core_state.proofs.Base.Counting.{bump_is, eqb_here, two_here, two_tells}
-use Rattle.core_state.proofs.Start.Root.{place_of_key}
-use Rattle.core_state.proofs.Start.Setting.{apart, lawful_graph, root_matches, task_matches}
-use Rattle.run_bounds.specs.Budgets.{Begun, IsCalmRun, Looked, all_places, begun_cost, enough_turns, is_begun, is_looked}
+use Rattle.run_bounds.specs.Budgets.{Begun, Looked, begun_cost, is_begun, is_looked}
 use Rattle.run_bounds.proofs.Counting.{count_sum, count_weaker, counted_in, each_counted, length_sum}
-use Rattle.run_bounds.proofs.Edges.{in_pairs, is_pair, pairs, pairs_many, ports_below_places}
+use Rattle.run_bounds.proofs.Edges.{in_pairs, is_pair, pairs, pairs_many}
 use Rattle.run_bounds.proofs.Pigeons.{met, pigeons}
 
 -- a job is the one that began, or another

@@ -1,7 +1,5 @@
 -- The closing of a word in a calm core: it closes the word, or finds it moved; and a word that was seen as it is by now is closed.
-use Rattle.std.proofs.Common.{◌≡◌, ◌≢◌, ◌⊎◌, ℕ, ◌+◌, ◌*◌, ◌%◌, ◌^◌, ◌<◌, ◌≤◌, bit_or, min, Bool, true, false, cond, ne_eqb, eq-eqb, List, [], ◌∷◌, Option, Some, None, ⊎_elim, inl, inr, arith, refl, ap, sym, ◌∙◌, subst}
-use mathlib.Core.Logic.{dite}
-use native.Mathlib.Decide.{ℕ_discrete}
+use Rattle.std.proofs.Common.{◌≡◌, ◌≢◌, ℕ, ◌+◌, ◌*◌, ◌%◌, ◌^◌, ◌<◌, ◌≤◌, bit_or, min, Bool, cond, ne_eqb, eq-eqb, List, [], ◌∷◌, Some, ⊎_elim, arith, ap, sym, ◌∙◌, subst}
 use Rattle.std.specs.Int.{bit_at}
 use Rattle.std.proofs.lemmas.Bool.{le-ltb, lt-ltb}
 use Rattle.std.proofs.lemmas.Nat.{mod_below}

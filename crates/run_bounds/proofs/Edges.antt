@@ -2,7 +2,7 @@
 use Rattle.std.proofs.Common.{◌≡◌, ◌≢◌, ℕ, zero, suc, ◌+◌, ◌<◌, ◌≤◌, Bool, true, false, cond, eqb, List, [], ◌∷◌, ◌++◌, length, Contains, ⊎_elim, arith, refl, ap, sym, ◌∙◌, subst}
 use Rattle.std.specs.List.{AllByRecursion, sum_by}
 use Rattle.std.proofs.lemmas.List.Sums.{sum_by-append, sum_by-cons}
-use Rattle.core_state.specs.Counts.{bump, count, hit}
+use Rattle.core_state.specs.Counts.{count, hit}
 use Rattle.core_state.specs.Graph.{Graph, Lawful}
 use Rattle.core_state.specs.Tests.{two}
 use Rattle.core_state.proofs.Base.Counting.{bump_is, eqb_here, two_here, two_tells}

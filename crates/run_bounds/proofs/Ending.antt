@@ -1,9 +1,8 @@
--- What the ledger comes to: a worker with nothing to do and no hint has nothing pending, and there are fewer turns than enough.
+-- What the ledger comes to: a worker with nothing to do and no hint has nothing pending, and with one turn more there are still fewer than enough.
 use Rattle.std.proofs.Common.{◌≡◌, ℕ, zero, suc, ◌+◌, ◌*◌, ◌<◌, ◌≤◌, List, [], length, arith, refl, ap}
 use mathlib.Core.Logic.{dite}
 use native.Mathlib.Decide.{ℕ_discrete}
 use Rattle.std.specs.List.{sum_by}
-use Rattle.std.proofs.lemmas.Nat.{mul-le}
 use Rattle.graph_model.specs.Graph.{Graph as TaskGraph}
 use Rattle.core_state.specs.Graph.{Setting}
 use Rattle.core_state.specs.Change.{Core}
@@ -34,8 +33,8 @@ pub nothing_pending : (e : Setting) (s : Core) (v : View) → IsCalm e s v → (
 nothing_pending e s v calm turns ledger no_stacks no_spare = let sum = calm.holds.work.credits.sum in let a = calm.alone stack_count in let b = calm.alone spare in let c = ap length no_stacks in
     let d = none_posted s.word e.shape.rows (λ r low. unhinted (s.word (posted job.Explore r)) (s.word (posted job.Compute r)) (ledger.hinted r low)) in omega (arith, sum, a, b, c, d, no_spare)
 
--- the sum of all budgets
-bounded : (r t p m cost looks turns : ℕ) → r ≡ t + 1 → cost ≤ 80 * r * (m + 2 * (t + 1)) → m ≤ 2 * (p + 1) → looks ≤ 17 * (t + 1) → turns ≤ cost + looks → turns < 200 * (t + 1) * (p + t + 2)
+-- the sum of all budgets, and two more
+bounded : (r t p m cost looks turns : ℕ) → r ≡ t + 1 → cost ≤ 80 * r * (m + 2 * (t + 1)) → m ≤ 2 * (p + 1) → looks ≤ 17 * (t + 1) → turns ≤ cost + looks → turns + 1 < 200 * (t + 1) * (p + t + 2)
 bounded r t p m cost looks turns rows costs few words paid =
     let q : ℕ = p + t + 2 in
     let a : 80 * r * (m + 2 * (t + 1)) ≤ 80 * r * (2 * q) = Rattle.std.proofs.Math.Nat.mul-le-mul_left (80 * r) (omega (arith, few)) in
@@ -44,7 +43,7 @@ bounded r t p m cost looks turns rows costs few words paid =
     let d : 200 * (t + 1) * (p + t + 2) ≡ 200 * ((t + 1) * q) = omega arith in
     omega (arith, a, b, c, d, costs, words, paid)
 
-pub few_turns : (g : TaskGraph) (e : Setting) → IsCalmRun g e → (s : Core) (v : View) (doing : Doing) (hints : List ℕ) (turns : ℕ) → Ledger e s v doing hints turns → turns < enough_turns g
+pub few_turns : (g : TaskGraph) (e : Setting) → IsCalmRun g e → (s : Core) (v : View) (doing : Doing) (hints : List ℕ) (turns : ℕ) → Ledger e s v doing hints turns → turns + 1 < enough_turns g
 few_turns g e run s v doing hints turns ledger =
     let costs = jobs_cost e e.keys ledger.jobs ledger.jobs_once ledger.jobs_listed in
     let looks = looks_few e.graph.notify_words e.keys ledger.looks ledger.looks_once (λ k w some. let has = ledger.looked k w some in (has.key_listed, has.word_inside)) in

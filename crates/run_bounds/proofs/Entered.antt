@@ -1,16 +1,14 @@
 -- Which events make a row, spend a place and bring a job, by what they record and leave.
-use Rattle.std.proofs.Common.{◌≡◌, ◌⊎◌, ℕ, zero, suc, ◌+◌, ◌<◌, ◌≤◌, Bool, true, false, cond, eqb, List, [], ◌∷◌, ⊎_elim, inl, inr, arith, refl, ap, sym, ◌∙◌, subst}
+use Rattle.std.proofs.Common.{◌≡◌, ◌⊎◌, ℕ, suc, ◌+◌, ◌<◌, ◌≤◌, Bool, true, false, cond, eqb, List, [], ◌∷◌, ⊎_elim, inl, inr, arith, refl, ap, sym, ◌∙◌, subst}
 use Rattle.core_state.specs.Counts.{begun, bump, count, hit, noted, owed, waits}
 use Rattle.core_state.specs.Effects.{claim_of, closing_of, elected_of, hitting_of, moved_items, seen, told_of}
 use Rattle.core_state.specs.Events.{Event, after}
 use Rattle.core_state.specs.Events.Event.{claim, look, load_descriptor, load_notify, load_recovery, load_pending, load_stop, register, spend, close, elect, renew_notify, renew_descriptor, finish, strike_descriptor, strike_notify, post, take, buy, drop_credit, take_turn, give_read, give_written, give_struck, halt}
 use Rattle.core_state.specs.Graph.{Setting}
 use Rattle.core_state.specs.Lines.{Line, begins, change_first, claimed_lines, counted, credit, drop_first, flat, of, settled, told_lines}
-use Rattle.core_state.specs.Outcome.{claimed_entries, closed_entries, closed_known, elected_entries, entries, hitting_entries, lines_left, told_entries}
+use Rattle.core_state.specs.Outcome.{claimed_entries, closed_entries, closed_known, elected_entries, entries, hitting_entries, told_entries}
 use Rattle.core_state.specs.Tests.{carries, is_created, is_ended, is_owed, is_spent, three, waits_at}
-use Rattle.core_state.specs.Views.{key_of}
 use Rattle.core_state.specs.Words.{life_shown, mark_shown}
-use Rattle.graph_model.specs.declared.record.Cause.{Cause}
 use Rattle.graph_model.specs.declared.record.Hit.{Hit}
 use Rattle.graph_model.specs.declared.record.Record.{Record}
 use Rattle.core_state.specs.declared.answers.Claim.{Claim}
@@ -26,16 +24,14 @@ use Rattle.core_state.specs.declared.answers.Told.TheVariants as told
 use Rattle.core_state.specs.declared.job.Job.{Job}
 use Rattle.core_state.specs.declared.job.Job.TheVariants as job
 use Rattle.core_state.specs.declared.views.Item.TheVariants as item
-use Rattle.core_state.specs.declared.views.Known.{Known}
 use Rattle.core_state.specs.declared.views.Known.TheVariants as known
 use Rattle.core_state.specs.declared.views.View.{View}
-use Rattle.core_state.specs.declared.views.Word.{Word}
 use Rattle.core_state.specs.declared.views.Word.TheVariants as word
 use Rattle.core_state.proofs.Base.Counting.{bump_is, some_one, three_else, two_here}
 use Rattle.core_state.proofs.Lines.Counts.{items_counted}
 use Rattle.core_state.proofs.Lines.Ends.{ended_settled}
 use Rattle.core_state.proofs.Lines.Entries.{noted_entered}
-use Rattle.core_state.proofs.Lines.Leaves.{HasLine, pushes, stepped}
+use Rattle.core_state.proofs.Lines.Leaves.{HasLine, stepped}
 use Rattle.core_state.proofs.Lines.Remembers.{facts_are}
 use Rattle.run_bounds.proofs.JobChanges.{owe_bare}
 use Rattle.run_bounds.proofs.JobEvents.{Serves, begins_one}

@@ -1,12 +1,12 @@
 -- In a calm core no step of a task is excused, but where a word moved that was seen: nothing is marked, suspected or in another's hand, and no post finds a job.
-use Rattle.std.proofs.Common.{◌≡◌, ◌≢◌, ◌⊎◌, ℕ, zero, suc, ◌+◌, ◌/◌, ◌<◌, ◌≤◌, Bool, true, false, cond, eqb, eq-eqb, List, [], ◌∷◌, ⊎_elim, inl, inr, arith, refl, ap, sym, ◌∙◌, subst}
+use Rattle.std.proofs.Common.{◌≡◌, ◌⊎◌, ℕ, ◌+◌, ◌/◌, ◌<◌, ◌≤◌, Bool, true, cond, eqb, eq-eqb, List, [], ◌∷◌, ⊎_elim, arith, refl, ap, ◌∙◌}
 use mathlib.Core.Logic.{dite}
 use native.Mathlib.Decide.{dec_lt}
 use Rattle.std.proofs.lemmas.Bool.{lt-ltb}
 use Rattle.core_state.specs.Change.{Core}
-use Rattle.core_state.specs.Counts.{bump, count, facts, hit, in_hand, knows_row}
-use Rattle.core_state.specs.Effects.{closing_of, registered_of, seen}
-use Rattle.core_state.specs.Events.{Event, after}
+use Rattle.core_state.specs.Counts.{count, facts, hit, in_hand, knows_row}
+use Rattle.core_state.specs.Effects.{registered_of, seen}
+use Rattle.core_state.specs.Events.{Event}
 use Rattle.core_state.specs.Events.Event.{claim, look, load_descriptor, load_notify, load_recovery, load_pending, load_stop, register, spend, close, elect, renew_notify, renew_descriptor, finish, strike_descriptor, strike_notify, post, take, buy, drop_credit, take_turn, give_read, give_written, give_struck, halt}
 use Rattle.core_state.specs.Graph.{Setting}
 use Rattle.core_state.specs.Lines.{Line, flat, of}
@@ -18,7 +18,6 @@ use Rattle.core_state.specs.declared.answers.Closing.{Closing}
 use Rattle.core_state.specs.declared.answers.Closing.TheVariants as closing
 use Rattle.core_state.specs.declared.answers.Registered.{Registered}
 use Rattle.core_state.specs.declared.answers.Registered.TheVariants as registered
-use Rattle.core_state.specs.declared.block.BlockCells.{BlockCells}
 use Rattle.core_state.specs.declared.job.Job.{Job}
 use Rattle.core_state.specs.declared.views.Item.TheVariants as item
 use Rattle.core_state.specs.declared.views.Known.{Known}

@@ -1,8 +1,7 @@
 -- What holds of a core with one view where no strike is planned: all is of the first life, nothing has a mark, and nobody is suspected.
-use Rattle.std.proofs.Common.{◌≡◌, ◌≢◌, ◌⊎◌, ℕ, ◌+◌, ◌<◌, ◌≤◌, Bool, true, false, ◌&&◌, nat_le, eqb, List, [], ◌∷◌, Contains, ⊎_elim, inl, inr, arith, sym, ap, refl, ◌∙◌, subst}
+use Rattle.std.proofs.Common.{◌≡◌, ℕ, ◌+◌, ◌<◌, ◌≤◌, true, eqb, List, [], ◌∷◌, arith, sym, ap, refl, ◌∙◌, subst}
 use mathlib.Core.Logic.{dite}
 use native.Mathlib.Decide.{ℕ_discrete, dec_lt}
-use Rattle.std.specs.Int.{bit_at}
 use Rattle.std.proofs.lemmas.Bool.{le-leb}
 use Rattle.std.proofs.lemmas.Nat.Bits.{bit_at-lt}
 use Rattle.graph_model.specs.declared.record.Hit.{Hit}
@@ -10,14 +9,13 @@ use Rattle.graph_model.specs.declared.record.Hit.TheVariants as hit_of
 use Rattle.graph_model.specs.declared.record.Record.{Record}
 use Rattle.graph_model.specs.declared.record.Record.TheVariants as record_of
 use Rattle.core_state.specs.Change.{Core, Sums, many}
-use Rattle.core_state.specs.Counts.{begun, bump, count, ended, held, hit, items, knows_row, noted, owed}
+use Rattle.core_state.specs.Counts.{begun, count, ended, held, hit, items, knows_row, noted, owed}
 use Rattle.core_state.specs.Cover.{Faultless}
 use Rattle.core_state.specs.Graph.{Setting}
 use Rattle.core_state.specs.Laws.{planned}
 use Rattle.core_state.specs.Rows.{HasKey, HasRow, LifeOf, Standing}
 use Rattle.core_state.specs.Tests.{is_any_struck, is_any_suspect, is_renew, is_struck, is_struck_upto, same_hit}
 use Rattle.core_state.specs.Words.{descriptor, life_of, mark_of, notify, posted, recovery, replacing, standing_life}
-use Rattle.core_state.specs.Work.{job_count}
 use Rattle.core_state.specs.declared.job.Job.{Job}
 use Rattle.core_state.specs.declared.job.Job.TheVariants.{Explore, Compute}
 use Rattle.core_state.specs.declared.views.View.{View}

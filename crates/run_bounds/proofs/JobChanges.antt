@@ -1,13 +1,12 @@
 -- Each change of the first item that an answer makes keeps its jobs.
-use Rattle.std.proofs.Common.{◌≡◌, ℕ, ◌+◌, ◌≤◌, Bool, true, false, cond, nat_lt, eqb, ◌&&◌, List, [], ◌∷◌, arith, refl, ap, sym, ◌∙◌}
-use Rattle.std.specs.Int.{bit_at}
+use Rattle.std.proofs.Common.{◌≡◌, ℕ, ◌+◌, ◌≤◌, Bool, true, false, cond, nat_lt, eqb, ◌&&◌, List, [], ◌∷◌, arith, refl, ap}
 use Rattle.std.proofs.lemmas.Bool.{eqb-true, ne_eqb}
 use Rattle.core_state.specs.Counts.{count, hit}
-use Rattle.core_state.specs.Effects.{blamed_items, distance, is_good, found_in, loaded_ended, loaded_items, moved_ended, moved_items, others_before, read_ended, read_items, skipped_items}
+use Rattle.core_state.specs.Effects.{blamed_items, is_good, found_in, loaded_ended, loaded_items, moved_ended, moved_items, read_ended, read_items, skipped_items}
 use Rattle.core_state.specs.Graph.{Graph, Plan}
 use Rattle.core_state.specs.Tests.{carries, is_ended, is_owed}
 use Rattle.core_state.specs.Views.{ends_with, none_left}
-use Rattle.core_state.specs.Words.{closed_bit, life_of, mark_of}
+use Rattle.core_state.specs.Words.{life_of, mark_of}
 use Rattle.graph_model.specs.declared.plan.Point.TheVariants as point
 use Rattle.graph_model.specs.declared.record.Cause.TheVariants as cause
 use Rattle.core_state.specs.declared.block.BlockCells.{BlockCells}

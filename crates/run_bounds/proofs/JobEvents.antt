@@ -1,13 +1,13 @@
 -- No job is lost by an event: what a view owes it owes on until it posts it, and what it has begun it has begun.
-use Rattle.std.proofs.Common.{◌≡◌, ℕ, zero, suc, ◌+◌, ◌<◌, ◌≤◌, Bool, true, false, cond, eqb, List, [], ◌∷◌, arith, refl, ap, sym, ◌∙◌, subst}
+use Rattle.std.proofs.Common.{◌≡◌, ℕ, zero, suc, ◌+◌, ◌≤◌, Bool, true, false, cond, eqb, List, [], ◌∷◌, arith, refl, ap, sym, subst}
 use Rattle.core_state.specs.Counts.{begun, count, hit, owed}
 use Rattle.core_state.specs.Effects.{claim_of, closing_of, ends_top, blamed_items, loaded_ended, loaded_items, moved_ended, moved_items, ports_from, read_ended, read_items, registered_of, skipped_items, told_of}
 use Rattle.core_state.specs.Events.{Event, after}
 use Rattle.core_state.specs.Events.Event.{claim, look, load_descriptor, load_notify, load_recovery, load_pending, load_stop, register, spend, close, elect, renew_notify, renew_descriptor, finish, strike_descriptor, strike_notify, post, take, buy, drop_credit, take_turn, give_read, give_written, give_struck, halt}
 use Rattle.core_state.specs.Graph.{Setting}
-use Rattle.core_state.specs.Lines.{Line, begins, came_lines, change_first, claimed_lines, closed_lines, counted, credit, drop_first, dropped, first_ended, flat, looked_lines, of, registered_lines, swap_first, told_lines}
+use Rattle.core_state.specs.Lines.{Line, begins, came_lines, change_first, claimed_lines, closed_lines, counted, credit, drop_first, dropped, first_ended, flat, of, registered_lines, swap_first, told_lines}
 use Rattle.core_state.specs.Outcome.{closed_ended, ended_left, lines_left, registered_ended}
-use Rattle.core_state.specs.Tests.{carries, is_ended, is_owed, two}
+use Rattle.core_state.specs.Tests.{carries, is_ended, is_owed}
 use Rattle.core_state.specs.Views.{ends_with}
 use Rattle.graph_model.specs.declared.record.Cause.TheVariants as cause
 use Rattle.core_state.specs.declared.answers.Claim.{Claim}
@@ -30,7 +30,7 @@ use Rattle.core_state.proofs.Lines.Ends.{ended_settled}
 use Rattle.core_state.proofs.Lines.Leaves.{HasLine, pushes, stepped}
 use Rattle.core_state.proofs.Settle.View.{ends_carry}
 use Rattle.run_bounds.proofs.JobChanges.{blamed_keeps, close_same, compute_close, loaded_keeps, moved_keeps, owe_bare, read_keeps, skipped_keeps}
-use Rattle.run_bounds.proofs.Jobs.{Grow, all_begun, all_owed, change_grows, settled_begun, settled_owed}
+use Rattle.run_bounds.proofs.Jobs.{Grow, change_grows, settled_begun, settled_owed}
 
 -- what stands first, where an event puts something else in its place; events of replacements are left out
 abbrev pub Serves : Event → List Line → Type 0

@@ -1,12 +1,12 @@
 -- The keys of a run: the tasks and the root, each once, with all places that there are.
-use Rattle.std.proofs.Common.{◌≡◌, ◌≢◌, ◌⊎◌, ℕ, zero, suc, ◌+◌, ◌*◌, ◌^◌, ◌<◌, ◌≤◌, Bool, eqb, List, [], ◌∷◌, length, Contains, slice_index_or, ⊎_elim, inl, inr, arith, refl, ap, sym, ◌∙◌, subst}
+use Rattle.std.proofs.Common.{◌≡◌, ◌≢◌, ℕ, zero, suc, ◌+◌, ◌<◌, ◌≤◌, eqb, List, [], ◌∷◌, length, Contains, slice_index_or, ⊎_elim, inl, inr, arith, refl, ap, sym, subst}
 use Rattle.std.specs.List.{AllByRecursion, AllPairs, sum_by}
 use Rattle.std.proofs.lemmas.Bool.Decides.{eqb_tells}
 use Rattle.std.proofs.lemmas.List.{get_or_default}
 use Rattle.std.proofs.lemmas.List.Elements.{recursion_from_All}
 use Rattle.std.proofs.lemmas.List.Kept.{AllPairs-from_increasing}
 use Rattle.std.proofs.lemmas.List.Sums.{sum_by-cons}
-use Rattle.graph_model.specs.Graph.{Graph as TaskGraph, IsLawful, IsTask}
+use Rattle.graph_model.specs.Graph.{Graph as TaskGraph, IsLawful}
 use Rattle.core_state.specs.Asked.{IsCoreKey}
 use Rattle.core_state.specs.Counts.{count, hit}
 use Rattle.core_state.specs.Graph.{Graph, Setting}

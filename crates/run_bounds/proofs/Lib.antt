@@ -5,6 +5,7 @@ pub mod Closings
 pub mod Counting
 pub mod Edges
 pub mod Ending
+pub mod Enough
 pub mod Entered
 pub mod Excused
 pub mod Faultless

@@ -1,13 +1,11 @@
 -- The ledger after the closing of a word: it is closed, or it moved. A word that moved though it was seen is counted once.
-use Rattle.std.proofs.Common.{◌≡◌, ◌≢◌, ◌⊎◌, ℕ, suc, ◌+◌, ◌-◌, ◌*◌, ◌<◌, ◌≤◌, Bool, true, false, cond, eqb, List, [], ◌∷◌, ◌++◌, length, Option, Some, None, ⊎_elim, inl, inr, arith, refl, ap, sym, ◌∙◌, subst}
+use Rattle.std.proofs.Common.{◌≡◌, ◌≢◌, ℕ, ◌+◌, ◌<◌, ◌≤◌, Bool, true, false, cond, eqb, List, [], ◌∷◌, ◌++◌, length, Option, Some, None, ⊎_elim, inl, inr, arith, refl, ap, sym, ◌∙◌, subst}
 use mathlib.Core.Logic.{dite}
 use native.Mathlib.Decide.{ℕ_discrete}
-use Rattle.std.specs.List.{sum_by}
 use Rattle.graph_model.specs.Graph.{Graph as TaskGraph}
 use Rattle.graph_model.specs.declared.plan.Point.TheVariants as point
 use Rattle.core_state.specs.Change.{Core}
 use Rattle.core_state.specs.Counts.{count, hit, knows_row, noted}
-use Rattle.core_state.specs.Effects.{closing_of}
 use Rattle.core_state.specs.Events.{Event}
 use Rattle.core_state.specs.Events.Event.{spend}
 use Rattle.core_state.specs.Graph.{Setting}
@@ -15,7 +13,6 @@ use Rattle.core_state.specs.Lines.{Line, HasLines}
 use Rattle.core_state.specs.Packed.{notify_of}
 use Rattle.core_state.specs.Tests.{is_closed, two}
 use Rattle.core_state.specs.Words.{posted}
-use Rattle.core_state.specs.declared.answers.Closing.TheVariants as closing
 use Rattle.core_state.specs.declared.block.BlockCells.{BlockCells}
 use Rattle.core_state.specs.declared.job.Job.TheVariants as job
 use Rattle.core_state.specs.declared.views.View.{View}
@@ -29,9 +26,9 @@ use Rattle.compute_notify.specs.declared.close.Close.{Close}
 use Rattle.compute_notify.specs.declared.item.Item.{Item}
 use Rattle.compute_notify.specs.declared.item.Item.TheVariants as item
 use Rattle.compute_notify.specs.declared.task.Task.{Task}
-use Rattle.compute_notify.proofs.Stacking.{low_rest, rest_behind}
+use Rattle.compute_notify.proofs.Stacking.{rest_behind}
 use Rattle.compute_notify.proofs.TaskRests.{before_more}
-use Rattle.run_bounds.specs.Budgets.{IsCalmRun, Looked, begun_cost, is_looked}
+use Rattle.run_bounds.specs.Budgets.{IsCalmRun, Looked, is_looked}
 use Rattle.run_bounds.specs.Calm.{IsCalm, IsStepped}
 use Rattle.run_bounds.specs.Hinting.{HasHints, HintsPut}
 use Rattle.run_bounds.specs.Ledger.{HasLooked, IsAtHand, Ledger, asked_hints, fresh_hints}

@@ -5,14 +5,13 @@ use Rattle.graph_model.specs.Graph.{Graph as TaskGraph}
 use Rattle.graph_model.specs.declared.plan.Point.{Point}
 use Rattle.graph_model.specs.declared.record.Cause.TheVariants as cause
 use Rattle.core_state.specs.Change.{Core}
-use Rattle.core_state.specs.Counts.{items, knows_row, known_key}
-use Rattle.core_state.specs.Effects.{after_computed, all_ports, found_in, is_good}
+use Rattle.core_state.specs.Counts.{items, known_key}
+use Rattle.core_state.specs.Effects.{after_computed, found_in, is_good}
 use Rattle.core_state.specs.Events.{Event}
 use Rattle.core_state.specs.Events.Event.{post, spend}
 use Rattle.core_state.specs.Graph.{Graph, Reached, Setting}
 use Rattle.core_state.specs.Graph.Reached.{through}
 use Rattle.core_state.specs.Lines.{Line, HasLines, flat, of}
-use Rattle.core_state.specs.Rows.{HasKey}
 use Rattle.core_state.specs.Tests.{is_any_suspect, is_renew}
 use Rattle.core_state.specs.declared.block.BlockCells.{BlockCells}
 use Rattle.core_state.specs.declared.job.Job.{Job}
@@ -42,7 +41,6 @@ use Rattle.compute_notify.specs.declared.close.Close.{Close}
 use Rattle.compute_notify.specs.declared.compute.Compute.{Compute}
 use Rattle.compute_notify.specs.declared.compute.Phase.{Phase}
 use Rattle.compute_notify.specs.declared.compute.Phase.TheVariants as phase
-use Rattle.compute_notify.specs.declared.duty.Duty.{Duty}
 use Rattle.compute_notify.specs.declared.explore.Explore.{Explore}
 use Rattle.compute_notify.specs.declared.explore.Way.{Way as Reaching}
 use Rattle.compute_notify.specs.declared.explore.Way.TheVariants as reaching

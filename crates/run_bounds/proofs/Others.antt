@@ -1,9 +1,8 @@
 -- The ledger after a turn of an item that neither closes a word nor posts a job, and after one that posts a job.
-use Rattle.std.proofs.Common.{◌≡◌, ◌≢◌, ◌⊎◌, ℕ, zero, suc, ◌+◌, ◌-◌, ◌*◌, ◌<◌, ◌≤◌, Bool, true, false, ◌&&◌, eqb, List, [], ◌∷◌, ◌++◌, length, Option, Some, ⊎_elim, inl, inr, arith, refl, ap, sym, ◌∙◌, subst}
+use Rattle.std.proofs.Common.{◌≡◌, ◌≢◌, ◌⊎◌, ℕ, ◌+◌, ◌-◌, ◌*◌, ◌<◌, ◌≤◌, Bool, true, false, ◌&&◌, eqb, List, [], ◌∷◌, length, Some, ⊎_elim, inl, arith, refl, ap, sym, ◌∙◌, subst}
 use mathlib.Core.Logic.{dite}
 use native.Mathlib.Decide.{ℕ_discrete}
 use Rattle.std.proofs.lemmas.Bool.{lt-ltb}
-use Rattle.graph_model.specs.Graph.{Graph as TaskGraph}
 use Rattle.core_state.specs.Change.{Core}
 use Rattle.core_state.specs.Counts.{begun, hit, knows_row, owed}
 use Rattle.core_state.specs.Events.{Event}

@@ -1,14 +1,14 @@
 -- In a calm core the view alone tells which jobs are posted: so a step that posts none leaves none posted that was not.
 use Rattle.std.proofs.Common.{◌≡◌, ◌≢◌, ◌⊎◌, ℕ, ◌+◌, ◌<◌, ◌≤◌, ◌^◌, Bool, true, false, eqb, bit_or, List, [], ◌∷◌, ⊎_elim, inl, inr, arith, refl, ap, sym, ◌∙◌, subst}
 use mathlib.Core.Logic.{dite}
-use native.Mathlib.Decide.{ℕ_discrete, dec_lt}
+use native.Mathlib.Decide.{ℕ_discrete}
 use Rattle.std.specs.Int.{bit_at}
 use Rattle.std.proofs.lemmas.Bool.{lt-ltb}
 use Rattle.std.proofs.lemmas.Bool.Decides.{eqb_tells}
 use Rattle.core_state.specs.Change.{Core, many}
-use Rattle.core_state.specs.Counts.{begun, count, held, hit, items, knows_row, noted, owed}
+use Rattle.core_state.specs.Counts.{begun, count, hit, items, knows_row, noted, owed}
 use Rattle.core_state.specs.Cover.{works}
-use Rattle.core_state.specs.Effects.{claim_of, told_of}
+use Rattle.core_state.specs.Effects.{claim_of}
 use Rattle.core_state.specs.Events.{Event}
 use Rattle.core_state.specs.Events.Event.{claim, spend}
 use Rattle.core_state.specs.Graph.{Setting}
@@ -16,7 +16,7 @@ use Rattle.core_state.specs.Laws.{IsPlace}
 use Rattle.core_state.specs.Lines.{flat}
 use Rattle.core_state.specs.Outcome.{entries, key_told}
 use Rattle.core_state.specs.Rows.{HasKey}
-use Rattle.core_state.specs.Tests.{is_any_suspect, is_closed, is_computed, is_created, is_of, is_renew, is_renew_of, is_row, is_spent, is_suspect, two}
+use Rattle.core_state.specs.Tests.{is_any_suspect, is_closed, is_created, is_of, is_renew, is_renew_of, is_row, is_spent, is_suspect, two}
 use Rattle.core_state.specs.Words.{descriptor, life_of, posted}
 use Rattle.core_state.specs.declared.answers.Claim.TheVariants as claimed
 use Rattle.core_state.specs.declared.answers.Told.TheVariants as told

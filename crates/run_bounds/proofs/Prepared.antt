@@ -1,5 +1,5 @@
 -- A view in which a result was made owes and holds what it did.
-use Rattle.std.proofs.Common.{◌≡◌, ℕ, ◌+◌, Bool, true, ◌∷◌, List, arith, refl, ap}
+use Rattle.std.proofs.Common.{◌≡◌, ℕ, Bool, true, ◌∷◌, List, arith, refl, ap}
 use Rattle.core_state.specs.Counts.{hit, items}
 use Rattle.core_state.specs.Effects.{after_computed}
 use Rattle.core_state.specs.Lines.{Line, counted, flat, of}

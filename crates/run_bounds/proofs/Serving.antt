@@ -1,16 +1,15 @@
 -- The ledger after a turn in which a worker without a task serves a hint.
-use Rattle.std.proofs.Common.{◌≡◌, ◌≢◌, ◌⊎◌, ℕ, zero, suc, ◌+◌, ◌-◌, ◌*◌, ◌<◌, ◌≤◌, Bool, true, false, ◌&&◌, eqb, List, [], ◌∷◌, length, Contains, ⊎_elim, inl, inr, arith, refl, ap, sym, ◌∙◌, subst}
+use Rattle.std.proofs.Common.{◌≡◌, ◌≢◌, ◌⊎◌, ℕ, suc, ◌+◌, ◌-◌, ◌*◌, ◌<◌, ◌≤◌, true, false, eqb, List, [], ◌∷◌, length, Contains, ⊎_elim, inl, inr, arith, refl, ap, sym, ◌∙◌, subst}
 use mathlib.Core.Logic.{dite}
 use native.Mathlib.Decide.{ℕ_discrete}
-use Rattle.std.specs.List.{sum_by}
 use Rattle.std.proofs.lemmas.Bool.{lt-ltb}
 use Rattle.std.proofs.lemmas.List.Sums.{sum_by-cons}
 use Rattle.graph_model.specs.Graph.{Graph as TaskGraph}
 use Rattle.core_state.specs.Asked.{IsCoreKey}
-use Rattle.core_state.specs.Counts.{begun, count, hit, knows_row, known_key, noted, owed}
+use Rattle.core_state.specs.Counts.{begun, count, hit, knows_row, known_key, owed}
 use Rattle.core_state.specs.Graph.{Setting}
 use Rattle.core_state.specs.Change.{Core}
-use Rattle.core_state.specs.Events.{Event, at, left as left_by}
+use Rattle.core_state.specs.Events.{Event}
 use Rattle.core_state.specs.Events.Event.{look, spend, take}
 use Rattle.core_state.specs.Lines.{flat}
 use Rattle.core_state.specs.Rows.{HasKey}
@@ -24,7 +23,7 @@ use Rattle.core_state.proofs.Start.Asked.{reached_is_key}
 use Rattle.recovery.specs.Memory.{KnowsKey}
 use Rattle.recovery.proofs.Knowing.{known_is, row_known}
 use Rattle.compute_notify.specs.Items.{job_item}
-use Rattle.compute_notify.specs.Tasks.{IsNew, few_left, task_rest}
+use Rattle.compute_notify.specs.Tasks.{IsNew}
 use Rattle.compute_notify.specs.declared.task.Task.{Task}
 use Rattle.compute_notify.proofs.JobRests.{new_few}
 use Rattle.run_bounds.specs.Budgets.{Begun, IsCalmRun, begun_cost, is_begun}

@@ -1,10 +1,9 @@
 -- The plain table of one worker is calm where the plan is empty, and a step of the worker's seat is one of its core.
-use Rattle.std.proofs.Common.{◌≡◌, ℕ, ◌+◌, ◌<◌, true, List, [], ◌∷◌, length, slice_index, set, arith, refl, ap, sym, ◌∙◌, subst}
+use Rattle.std.proofs.Common.{◌≡◌, ℕ, ◌<◌, true, List, [], ◌∷◌, length, slice_index, arith, refl, ap, sym, ◌∙◌, subst}
 use Rattle.std.proofs.Math.ListN.{length-set}
 use Rattle.core_state.specs.Counts.{total_of}
 use Rattle.core_state.specs.Graph.{Setting}
 use Rattle.core_state.specs.Words.{Shape, inside, pending, place_of, read}
-use Rattle.core_state.specs.Views.{blank}
 use Rattle.core_state.specs.Events.{Event, after, at, left}
 use Rattle.core_state.specs.declared.views.View.{View}
 use Rattle.core_state.proofs.Base.Words.{read_at, read_here}

@@ -1,22 +1,18 @@
 -- The ledger after a turn of a task.
-use Rattle.std.proofs.Common.{◌≡◌, ℕ, ◌+◌, ◌<◌, ◌≤◌, true, List, [], ◌∷◌, ◌++◌, Some, ⊎_elim, inl, inr, arith, refl, ap, sym, ◌∙◌, subst}
+use Rattle.std.proofs.Common.{◌≡◌, ℕ, ◌+◌, ◌≤◌, true, List, [], ◌∷◌, ◌++◌, Some, ⊎_elim, inl, arith, refl, ap, sym, ◌∙◌, subst}
 use Rattle.graph_model.specs.Graph.{Graph as TaskGraph}
 use Rattle.graph_model.specs.declared.key.Key.{Key}
 use Rattle.graph_model.specs.declared.record.Cause.{Cause}
 use Rattle.core_state.specs.Change.{Core}
-use Rattle.core_state.specs.Counts.{items}
 use Rattle.core_state.specs.Events.{Event}
-use Rattle.core_state.specs.Events.Event.{close, post}
+use Rattle.core_state.specs.Events.Event.{close}
 use Rattle.core_state.specs.Graph.{Setting}
-use Rattle.core_state.specs.Lines.{Line, flat, of}
 use Rattle.core_state.specs.Tests.{is_any_suspect, is_suspect_for}
-use Rattle.core_state.specs.declared.job.Job.{Job}
 use Rattle.core_state.specs.declared.views.Item.{Item as Carried}
 use Rattle.core_state.specs.declared.views.Item.TheVariants as line
 use Rattle.core_state.specs.declared.views.View.{View}
-use Rattle.core_state.proofs.Lines.Leaves.{HasLine, pushes}
+use Rattle.core_state.proofs.Lines.Leaves.{HasLine}
 use Rattle.core_state.proofs.Row.View.{items_below}
-use Rattle.recovery.specs.Memory.{KnowsKey}
 use Rattle.recovery.specs.declared.turn.Turn.TheVariants as turn
 use Rattle.recovery.proofs.Knowing.{known_is}
 use Rattle.compute_notify.specs.Eventing.{item_event, item_hints, item_prepared, plain_event}
@@ -31,17 +27,15 @@ use Rattle.compute_notify.proofs.Closing.{word_there}
 use Rattle.compute_notify.proofs.Turned.{next_stands, next_top}
 use Rattle.run_bounds.specs.Budgets.{IsCalmRun}
 use Rattle.run_bounds.specs.Calm.{IsCalm, IsStepped}
-use Rattle.run_bounds.specs.Hinting.{HasHints, HintsPut}
-use Rattle.run_bounds.specs.Ledger.{HasLooked, Ledger, TaskTurned, asked_hints, fresh_hints}
+use Rattle.run_bounds.specs.Hinting.{HintsPut}
+use Rattle.run_bounds.specs.Ledger.{HasLooked, Ledger, TaskTurned}
 use Rattle.run_bounds.specs.Ledger.Doing.{idle, works}
 use Rattle.run_bounds.proofs.Bottoms.{item_line, task_line}
-use Rattle.run_bounds.proofs.Excused.{Allowed, allowed_falls}
+use Rattle.run_bounds.proofs.Excused.{allowed_falls}
 use Rattle.run_bounds.proofs.Faultless.{none_suspected}
-use Rattle.run_bounds.proofs.Hinting.{hints_as}
 use Rattle.run_bounds.proofs.Looking.{closes_on}
 use Rattle.run_bounds.proofs.Origins.{Sort, item_ready, plain_is, sort_of, strike_none}
 use Rattle.run_bounds.proofs.Others.{posts_on, serves_on}
-use Rattle.run_bounds.proofs.Posted.{IsReady}
 
 -- no task has nothing left that has a next item
 next_some : (xs left gone : List Item) (y : Item) → xs ≡ left ++ y ∷ gone → xs ≡ [] → ⊥

@@ -1,5 +1,5 @@
 -- How many turns are enough, and what the jobs may cost that begin.
-use Rattle.std.specs.Prelude.{◌≡◌, ℕ, ◌+◌, ◌*◌, Bool, ◌&&◌, eqb, List, [], ◌∷◌, length}
+use Rattle.std.specs.Prelude.{◌≡◌, ℕ, ◌+◌, ◌*◌, Bool, ◌&&◌, eqb, List, [], length}
 use Rattle.std.specs.List.{sum_by}
 use Rattle.graph_model.specs.Graph.{Graph as TaskGraph}
 use Rattle.graph_model.specs.Serial.{Outcome}
