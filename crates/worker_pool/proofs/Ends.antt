@@ -4,6 +4,7 @@ use Rattle.std.proofs.lemmas.Bool.{eq-eqb, eqb-true}
 use Rattle.graph_model.specs.Graph.{Graph as TaskGraph}
 use Rattle.graph_model.specs.Serial.{Outcome, serial}
 use Rattle.graph_model.specs.declared.plan.Strike.{Strike}
+use Rattle.graph_model.specs.declared.key.Key.{Key}
 use Rattle.graph_model.specs.declared.record.Cause.{Cause}
 use Rattle.graph_model.specs.declared.record.Record.{Record}
 use Rattle.core_state.specs.Counts.{count}
@@ -12,9 +13,9 @@ use Rattle.core_state.specs.Graph.{Graph, Setting, greatest_life}
 use Rattle.core_state.specs.Rooted.{root_key, setting_of}
 use Rattle.core_laws.specs.Lists.{RootReplaced, SuspectShown}
 use Rattle.worker_pool.proofs.Closing.{same_computed}
-use Rattle.worker_pool.specs.Ends.{EndTells, IsFinished, IsSpent, NoneMissing}
+use Rattle.worker_pool.specs.Ends.{EndTells, IsFinished, IsNotShort, IsSpent, NoneMissing}
 use Rattle.worker_pool.specs.Ends.IsSpent.{of_root, of_task}
-use Rattle.worker_pool.specs.Closing.{ClosedTells, EndedBy, SpentBy, StopShown, WithRoot, is_whole}
+use Rattle.worker_pool.specs.Closing.{ClosedTells, EndedBy, IsQuietStop, SpentBy, StopShown, WithRoot, is_whole}
 use Rattle.worker_pool.specs.Closing.WithRoot.{all, refused}
 use Rattle.worker_pool.specs.declared.end.Why.{Why}
 use Rattle.worker_pool.specs.declared.end.Why.TheVariants as why
@@ -96,3 +97,17 @@ module _ (g : Graph) (tasks root : List Record) (of_root : RootReplaced g root) 
   ended_computed sink stop.OutOfMemory pending told records by none k l = absurd (subst NoneMissing by none)
   ended_computed sink stop.Over pending told records by none k l = with_computed (why.ScheduleShort pending) told records by none k l
   ended_computed sink (stop.Spent s) pending told records by none k l = spent_computed (eqb s.key.0 root_key) sink s told records by none k l
+
+spent_not_short : (k : Key) (l : ℕ) (c : Cause) (tasks root records : List Record) (told : Why) → WithRoot (why.LivesSpent k l c) tasks root told records → IsNotShort told
+spent_not_short k l c tasks root records told (all is are) = subst IsNotShort (sym is) tt
+spent_not_short k l c tasks root records told (refused is) = subst IsNotShort (sym is) tt
+
+spent_waits : (sink : ℕ) (s : Spent) (tasks root records : List Record) (told : Why) (b : Bool) → SpentBy b sink s tasks root told records → IsNotShort told
+spent_waits sink s tasks root records told true by = spent_not_short (record { 0 = sink }) s.life s.cause tasks root records told by
+spent_waits sink s tasks root records told false by = subst IsNotShort (sym by.0) tt
+
+-- turns that ended of themselves with nothing pending were not cut short
+pub not_short : (sink : ℕ) (x : Stop) (pending : ℕ) (tasks root records : List Record) (told : Why) → IsQuietStop x pending → (x ≡ stop.Over → pending ≢ 0) → EndedBy sink x pending tasks root told records → IsNotShort told
+not_short sink stop.OutOfMemory pending tasks root records told quiet some by = subst IsNotShort (sym by) tt
+not_short sink stop.Over pending tasks root records told quiet some by = absurd (some refl quiet)
+not_short sink (stop.Spent s) pending tasks root records told quiet some by = spent_waits sink s tasks root records told (eqb s.key.0 root_key) by

@@ -15,14 +15,16 @@ use Rattle.core_state.proofs.Base.Counting.{eqb_here}
 use Rattle.core_state.proofs.Own.Sure.{sure_of}
 use Rattle.core_state.specs.Rooted.{graph_of, root_key}
 use Rattle.core_state.specs.Shapes.{IsLayoutOf}
+use Rattle.core_state.specs.Words.{Shape}
 use Rattle.core_state.specs.declared.layout.Layout.{Layout}
 use Rattle.core_state.proofs.Start.Root.{cells_root, cells_task}
 use Rattle.core_state.proofs.Start.Setting.{shape_fits}
 use Rattle.core_state.specs.declared.job.Job.TheVariants as job
 use Rattle.core_state.specs.Graph.{Setting}
 use Rattle.core_state.specs.Views.{bare, blank, opener, all_parts}
+use Rattle.core_state.specs.declared.views.Known.{Known}
 use Rattle.core_state.specs.declared.views.View.{View}
-use Rattle.core_steps.specs.Table.{IsSound, Plain, core_by, first_views, shape_of, view_in}
+use Rattle.core_steps.specs.Table.{IsSound, Plain, core_by, shape_of, view_in}
 use Rattle.core_steps.proofs.Seats.{seat_within}
 use Rattle.core_steps.proofs.Telling.{key_in-suc}
 use Rattle.recovery.specs.Memory.{KnowsKey}
@@ -32,6 +34,7 @@ use Rattle.compute_notify.specs.Rooms.{HasRoom}
 use Rattle.compute_notify.specs.Tasks.{IsNew}
 use Rattle.compute_notify.specs.declared.task.Task.{Task}
 use Rattle.worker_pool.specs.Calling.{HasCalled}
+use Rattle.worker_pool.specs.Joining.{begun_views}
 use Rattle.worker_pool.specs.Pooling.{AreNew, IsRun, KernelsCalled, WorkersHold}
 use Rattle.worker_pool.specs.Working.{IsIdle, IsNewWorker, WorkHolds, WorkScratch, WorkerHolds}
 use Rattle.worker_pool.proofs.Begun.{new_holds, new_scratch, some_items}
@@ -41,31 +44,31 @@ use Rattle.worker_pool.specs.declared.worker.Worker.{Worker}
 use Rattle.worker_pool.proofs.Pooling.{set_tells}
 
 -- a view that only knows something, and one that was joined away, have no work
-bare_idle : (n : ℕ) → IsIdle (bare n [])
-bare_idle n = record { no_stacks = refl; no_credit = refl; no_hands = refl }
+bare_idle : (n : ℕ) (knows : List Known) → IsIdle (bare n knows)
+bare_idle n knows = record { no_stacks = refl; no_credit = refl; no_hands = refl }
 
 blank_idle : IsIdle blank
 blank_idle = record { no_stacks = refl; no_credit = refl; no_hands = refl }
 
-many_idle : (count i : ℕ) → IsIdle (view_in (replicate count (bare 1 [])) i)
-many_idle zero i = blank_idle
-many_idle (suc count) zero = bare_idle 1
-many_idle (suc count) (suc i) = many_idle count i
+many_idle : (knows : List Known) (count i : ℕ) → IsIdle (view_in (replicate count (bare 1 knows)) i)
+many_idle knows zero i = blank_idle
+many_idle knows (suc count) zero = bare_idle 1 knows
+many_idle knows (suc count) (suc i) = many_idle knows count i
 
-others_idle : (e : Setting) (workers i : ℕ) → IsIdle (view_in (first_views e workers) (suc i))
-others_idle e workers i = many_idle (workers - 1) i
+others_idle : (e : Setting) (knows : List Known) (workers i : ℕ) → IsIdle (view_in (begun_views e knows workers) (suc i))
+others_idle e knows workers i = many_idle knows (workers - 1) i
 
 -- no result was noted yet
-many_bare : (count i : ℕ) → (view_in (replicate count (bare 1 [])) i).records ≡ []
-many_bare zero i = refl
-many_bare (suc count) zero = refl
-many_bare (suc count) (suc i) = many_bare count i
+many_bare : (knows : List Known) (count i : ℕ) → (view_in (replicate count (bare 1 knows)) i).records ≡ []
+many_bare knows zero i = refl
+many_bare knows (suc count) zero = refl
+many_bare knows (suc count) (suc i) = many_bare knows count i
 
-others_bare : (e : Setting) (workers i : ℕ) → (view_in (first_views e workers) (suc i)).records ≡ []
-others_bare e workers i = many_bare (workers - 1) i
+others_bare : (e : Setting) (knows : List Known) (workers i : ℕ) → (view_in (begun_views e knows workers) (suc i)).records ≡ []
+others_bare e knows workers i = many_bare knows (workers - 1) i
 
 -- what holds of all holds of the one at a place
-all_at : {X : Type 0} (P : X → Type 0) (xs : List X) (i : ℕ) (x : X) → All P xs → slice_get xs i ≡ Some x → P x
+pub all_at : {X : Type 0} (P : X → Type 0) (xs : List X) (i : ℕ) (x : X) → All P xs → slice_get xs i ≡ Some x → P x
 all_at P xs i x all at = subst P (get_or_from_slice_get xs i x x at) (All-get_or P xs i x (slice_get_within xs i x at) all)
 
 -- new workers, of which the first was given a task
@@ -82,14 +85,14 @@ are_new g row count ws w t all many new begins = record {
 }
 
 -- as many views as workers
-pub first_count : (e : Setting) (workers : ℕ) → 1 ≤ workers → length (first_views e workers) ≡ workers
-first_count e workers some = let a : length (replicate (workers - 1) (bare 1 [])) ≡ workers - 1 = length-replicate (workers - 1) (bare 1 []) in omega (arith, a, some)
+pub first_count : (e : Setting) (knows : List Known) (workers : ℕ) → 1 ≤ workers → length (begun_views e knows workers) ≡ workers
+first_count e knows workers some = let a : length (replicate (workers - 1) (bare 1 knows)) ≡ workers - 1 = length-replicate (workers - 1) (bare 1 knows) in omega (arith, a, some)
 
 -- a sound table tells of its first view what holds of each view
 pub opener_sure : (e : Setting) (p : Plain) → 0 < length p.views → IsSound e p → IsSure e (view_in p.views 0)
 opener_sure e p some sound = sure_of e (core_by p.shape p.words p.blocks p.views) sound.holds (view_in p.views 0) (seat_within p 0 some)
 
-module _ (g : TaskGraph) (e : Setting) (run : IsRun g e) (workers : ℕ) (vs : List View) (views : vs ≡ first_views e workers) where
+module _ (g : TaskGraph) (e : Setting) (run : IsRun g e) (knows : List Known) (workers : ℕ) (vs : List View) (views : vs ≡ begun_views e knows workers) where
   abbrev pub row : ℕ
   row = root_key % e.shape.rows
 
@@ -109,7 +112,7 @@ module _ (g : TaskGraph) (e : Setting) (run : IsRun g e) (workers : ℕ) (vs : L
   opening_lines = record { lines_are = refl }
 
   idle_later : (i : ℕ) → IsIdle (view_in vs (suc i))
-  idle_later i = subst (λ (us : List View). IsIdle (view_in us (suc i))) (sym views) (others_idle e workers i)
+  idle_later i = subst (λ (us : List View). IsIdle (view_in us (suc i))) (sym views) (others_idle e knows workers i)
 
   module _ (ws : List Worker) (new : AreNew g row workers ws) (many : length ws ≡ length vs) (sure : IsSure e (view_in vs 0)) where
     no_rows : (i : ℕ) (w : Worker) → slice_get ws i ≡ Some w → All (λ r. r < e.shape.rows) w.hints.items
@@ -149,7 +152,7 @@ module _ (g : TaskGraph) (e : Setting) (run : IsRun g e) (workers : ℕ) (vs : L
     where
       each : (i : ℕ) (calls : Option (List Note)) → HasCalled calls calls (view_in vs i)
       each zero calls = subst (HasCalled calls calls) (sym opening_is) (called_still calls calls (bare 1 []) opening (λ k l. refl) (none_called calls (bare 1 []) refl))
-      each (suc i) calls = none_called calls (view_in vs (suc i)) (subst (λ (us : List View). (view_in us (suc i)).records ≡ []) (sym views) (others_bare e workers i))
+      each (suc i) calls = none_called calls (view_in vs (suc i)) (subst (λ (us : List View). (view_in us (suc i)).records ≡ []) (sym views) (others_bare e knows workers i))
 
 -- the blocks of the layout have as many cells as the setting says
 pub cells_are : (g : TaskGraph) (e : Setting) (x : Layout) → IsRun g e → IsLayoutOf g x → (b : ℕ) → b < length x.cells.items → slice_index x.cells.items b ≡ e.graph.cells b
@@ -163,3 +166,7 @@ cells_are g e x run layout b low = by ∙ ap (λ (d : Setting). d.graph.cells b)
 -- the layout has the setting's shape
 pub shape_is : (g : TaskGraph) (e : Setting) (x : Layout) → IsRun g e → IsLayoutOf g x → e.shape ≡ shape_of x
 shape_is g e x run layout = ap (λ (d : Setting). d.shape) run.setting_is ∙ shape_fits g x layout
+
+-- the root's row by the rows of the layout is that of the setting
+pub root_at : (g : TaskGraph) (e : Setting) (x : Layout) → IsRun g e → IsLayoutOf g x → (at : ℕ) → at ≡ root_key % x.rows → at ≡ root_key % e.shape.rows
+root_at g e x run layout at is = is ∙ sym (ap (λ (h : Shape). root_key % h.rows) (shape_is g e x run layout))

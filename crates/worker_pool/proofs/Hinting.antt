@@ -1,5 +1,5 @@
 -- The hints that a turn of a task gives are rows of the table.
-use Rattle.std.proofs.Common.{if◌then◌else◌, ◌≡◌, ◌≢◌, ◌⊎◌, ◌∙◌, ℕ, zero, suc, ◌<◌, Bool, true, false, cond, List, [], ◌∷◌, ◌++◌, Some, All, length, slice_index_or, ⊎_elim, inl, inr, ap, subst, sym, refl, arith}
+use Rattle.std.proofs.Common.{◌≡◌, ◌≢◌, ◌⊎◌, ◌∙◌, ℕ, zero, suc, ◌<◌, ◌≤◌, Bool, true, false, cond, List, [], ◌∷◌, ◌++◌, Some, All, length, slice_index_or, ⊎_elim, inl, inr, ap, subst, sym, refl, arith}
 use Rattle.std.proofs.lemmas.List.Elements.{All-pop, All-push}
 use mathlib.Core.Bool.{true≢false}
 use Rattle.graph_model.specs.Graph.{Graph as TaskGraph}
@@ -15,6 +15,7 @@ use Rattle.compute_notify.specs.Tasks.{AllOver, FitsAll, FromCredit, Holds, IsNe
 use Rattle.compute_notify.specs.declared.item.Item.{Item}
 use Rattle.compute_notify.specs.declared.item.Item.TheVariants as item
 use Rattle.compute_notify.specs.declared.task.Task.{Task}
+use Rattle.worker_pool.proofs.Calming.Hints.{few_hints}
 
 -- the last item that is not over, if there is one
 module _ (g : Graph) (p : List Strike) where
@@ -75,16 +76,12 @@ module _ (g : TaskGraph) (e : Setting) (v : View) where
       subst (All (λ r. r < e.shape.rows)) (sym (hinted next.0 next.1 next.2 ∙ ap (item_hints next.1) none))
       (hinted_rows next.1 (fits_at next.0 next.1 next.2.0 (subst (FitsAll g e v) next.2.1 holds.fits)))
 
--- a row that was posted is kept where there is room, and the others are rows still
-pub kept_rows : (rows row : ℕ) (hints now posted left : List ℕ) (ok : Bool) → now ≡ (if ok then hints ++ row ∷ [] else hints) → posted ≡ left ++ row ∷ [] → All (λ r. r < rows) hints → All (λ r. r < rows) posted → All (λ r. r < rows) now × All (λ r. r < rows) left
-kept_rows rows row hints now posted left ok is split all given = (subst IsRows (sym is) (by ok), rest.0)
-  where
-    IsRows : List ℕ → Type 0
-    IsRows xs = All (λ r. r < rows) xs
+-- a turn of a task brings few of them
+pub turn_few : (g : Graph) (p : List Strike) (t : Task) (rows now : List ℕ) → FromCredit (task_items t) → task_items t ≢ [] → rows ≡ [] → ((left : List Item) (x : Item) → IsNext g p (task_items t) left (Some x) → now ≡ item_hints x rows) → length now ≤ 2
+turn_few g p t rows now bottom some none hinted = let next = has_next g p (task_items t) bottom some in
+    let few = few_hints next.1 in let is : length now ≡ length (item_hints next.1 []) = ap length (hinted next.0 next.1 next.2 ∙ ap (item_hints next.1) none) in omega (arith, few, is)
 
-    rest : All (λ r. r < rows) left × (row < rows)
-    rest = All-pop (λ r. r < rows) posted left (Some row) split given
-
-    by : (b : Bool) → All (λ r. r < rows) (if b then hints ++ row ∷ [] else hints)
-    by true = All-push (λ r. r < rows) hints row all rest.1
-    by false = all
+-- a row that was posted is kept, and the others are rows still
+pub kept_rows : (rows row : ℕ) (hints now posted left : List ℕ) → now ≡ hints ++ row ∷ [] → posted ≡ left ++ row ∷ [] → All (λ r. r < rows) hints → All (λ r. r < rows) posted → All (λ r. r < rows) now × All (λ r. r < rows) left
+kept_rows rows row hints now posted left is split all given = let rest : All (λ r. r < rows) left × (row < rows) = All-pop (λ r. r < rows) posted left (Some row) split given in
+    (subst (λ (xs : List ℕ). All (λ r. r < rows) xs) (sym is) (All-push (λ r. r < rows) hints row all rest.1), rest.0)

@@ -1,6 +1,7 @@
 pub mod Assigning
 pub mod Begun
 pub mod Calls
+pub mod Calming
 pub mod Closing
 pub mod Completing
 pub mod Ends
@@ -14,5 +15,6 @@ pub mod Places
 pub mod Pooling
 pub mod Settings
 pub mod Sums
+pub mod Threading
 pub mod Turns
 pub mod WordCauses

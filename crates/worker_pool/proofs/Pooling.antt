@@ -129,6 +129,13 @@ pub scheduled : (schedule : List ℕ) (many turn : ℕ) → schedule ≢ [] → 
 scheduled [] many turn some all = absurd (some refl)
 scheduled (x ∷ xs) many turn some all = all (turn % length (x ∷ xs)) 0 (mod_below turn (length (x ∷ xs)) (omega arith))
 
+-- a kernel whose meaning stays makes what it made
+pub makes_on : (g : TaskGraph) (e : Setting) (before now : Outcome) (fits fits' : ℕ → List (List ℤ) → Type 0) → SameKernel before now fits fits' → Makes g before fits e → Makes g now fits' e
+makes_on g e before now fits fits' same old = record {
+  graph_is = subst (λ (o : Outcome). IsGraphOf g o e.graph) (sym same.same_outcome) old.graph_is;
+  can = λ t task. (same.same_fits t (map (serial g now) (inputs_of g t))).1 (subst (λ (o : Outcome). fits t (map (serial g o) (inputs_of g t))) (sym same.same_outcome) (old.can t task));
+}
+
 -- The kernels after a turn with one of them.
 module _ {K : Type 0} (ks : List K) (i : ℕ) (u k : K) (low : i < length ks) (is : u ≡ slice_index_or ks i u) where
   pub calls_turned : (calls : K → Option (List Note)) (before : List (Option (List Note))) (vs us : List View) → OthersStay vs us i → ((b : Option (List Note)) → HasCalled b (calls u) (view_in vs i) → HasCalled b (calls k) (view_in us i)) → KernelsCalled before (map calls ks) vs → KernelsCalled before (map calls (set ks i k)) us
@@ -153,7 +160,4 @@ module _ {K : Type 0} (ks : List K) (i : ℕ) (u k : K) (low : i < length ks) (i
         TakesFirst a = (t : ℕ) (lists : List (List ℤ)) → fits a t lists ↔ FirstFits fits before t lists
 
     pub make_turned : (g : TaskGraph) (e : Setting) → KernelsMake g e outcome fits ks → KernelsMake g e outcome fits (set ks i k)
-    make_turned g e make = All-set (λ a. Makes g (outcome a) (fits a) e) ks i k (let old = all_read (λ a. Makes g (outcome a) (fits a) e) ks i u low is make in record {
-      graph_is = subst (λ (o : Outcome). IsGraphOf g o e.graph) (sym same.same_outcome) old.graph_is;
-      can = λ t task. (same.same_fits t (map (serial g (outcome k)) (inputs_of g t))).1 (subst (λ (o : Outcome). fits u t (map (serial g o) (inputs_of g t))) (sym same.same_outcome) (old.can t task));
-    }) make
+    make_turned g e make = All-set (λ a. Makes g (outcome a) (fits a) e) ks i k (makes_on g e _ _ _ _ same (all_read (λ a. Makes g (outcome a) (fits a) e) ks i u low is make)) make

@@ -9,7 +9,7 @@ use Rattle.core_state.specs.Tests.{is_computed, two}
 use Rattle.core_state.specs.Rooted.{root_key}
 use Rattle.core_state.specs.declared.views.View.{View}
 use Rattle.core_state.proofs.Seats.View.{count_both}
-use Rattle.core_steps.specs.Table.{IsClosing, view_in}
+use Rattle.core_steps.specs.Table.{view_in}
 use Rattle.core_state.specs.Graph.{Setting}
 use Rattle.core_state.specs.declared.block.BlockCells.{BlockCells}
 use Rattle.core_laws.specs.Lists.{AreOfTasks}
@@ -19,7 +19,9 @@ use Rattle.worker_pool.specs.declared.end.Why.TheVariants as why
 use Rattle.worker_pool.proofs.Closing.{kept_computed, no_root_computed}
 use Rattle.worker_pool.proofs.Calls.{none_added}
 use Rattle.worker_pool.specs.Calling.{AddCalls, AddsCalls, CalledAsRecorded, HasCalled, OnlyCalled, all_calls, calls_for}
+use Rattle.worker_pool.specs.Joining.{HaveEnded}
 use Rattle.worker_pool.specs.Pooling.{KernelsCalled}
+use Rattle.worker_pool.proofs.Threading.Joining.{noted_adds}
 
 -- the new calls of all kernels, and how often each of them was made
 pub record AreGathered (before now : List (Option (List Note))) (vs : List View) : Type 0 where
@@ -88,12 +90,12 @@ none_called_at_all (b ∷ bs) = let rest = none_called_at_all bs in record {
     each rest zero low = none_added b
     each rest (suc i) low = rest.calls.each i (omega (arith, low))
 
--- The records of a closed table have the results of all its views.
+-- The records of a closed table have the results of all its workers' views.
 pub all_recorded : (e : Setting) (vs : List View) (ws : List ℕ) (bs : List (Option BlockCells)) (tasks root records : List Record) (before now : List (Option (List Note)))
-    → IsClosing e vs ws bs tasks root → e.graph.root ≡ root_key → AreOfTasks e.graph tasks → length vs ≡ length before → KernelsCalled before now vs
+    → HaveEnded e vs ws bs tasks root → e.graph.root ≡ root_key → AreOfTasks e.graph tasks → length vs ≡ length before → KernelsCalled before now vs
     → ((k l : ℕ) → count (is_computed k l) records ≡ count (is_computed k l) tasks) → CalledAsRecorded before now records
-all_recorded e vs ws bs tasks root records before now closing at_root of_tasks many called same = called_as_recorded before now vs records many called
-    (λ k l ne. kept_computed e.graph.root k l (λ is. ne (is ∙ at_root)) vs (count (is_computed k l) records) (same k l ∙ closing.others (is_computed k l)))
+all_recorded e vs ws bs tasks root records before now ended at_root of_tasks many called same = called_as_recorded before now vs records many called
+    (λ k l ne. kept_computed e.graph.root k l (λ is. ne (is ∙ at_root)) ended.views (count (is_computed k l) records) (same k l ∙ ended.closing.others (is_computed k l)) ∙ ended.all (noted (is_computed k l)) (noted_adds (is_computed k l)))
     (λ l. subst (λ r. count (is_computed r l) records ≡ 0) at_root (same e.graph.root l ∙ no_root_computed e.graph l tasks of_tasks))
 
 -- the kernels' calls of a run, by what it came to

@@ -37,7 +37,7 @@ use Rattle.worker_pool.proofs.Begun.{new_holds, some_items}
 use Rattle.worker_pool.proofs.Idling.{looked, taken_credit, taken_hands, taken_knows, taken_lines}
 
 -- no work is what has none to do
-idle_is : (x : Work) → is_idle x ≡ true → x ≡ work.Idle
+pub idle_is : (x : Work) → is_idle x ≡ true → x ≡ work.Idle
 idle_is work.Idle idle = refl
 idle_is (work.Serve row key i) idle = absurd (true≢false (sym idle))
 idle_is (work.Busy t) idle = absurd (true≢false (sym idle))

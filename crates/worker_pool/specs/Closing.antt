@@ -48,3 +48,9 @@ abbrev pub is_whole : Stop → ℕ → Bool
 is_whole stop.Over pending = eqb pending 0
 is_whole stop.OutOfMemory pending = false
 is_whole (stop.Spent s) pending = false
+
+-- where the turns ended of themselves nothing is pending
+abbrev pub IsQuietStop : Stop → ℕ → Type 0
+IsQuietStop stop.Over pending = pending ≡ 0
+IsQuietStop stop.OutOfMemory pending = Unit {0}
+IsQuietStop (stop.Spent s) pending = Unit {0}

@@ -82,3 +82,9 @@ NoneMissing (why.ScheduleShort pending) = Unit {0}
 abbrev pub HasAllRecords : Result (List ℤ) Why → Type 0
 HasAllRecords (Ok value) = Unit {0}
 HasAllRecords (Err why) = NoneMissing why
+
+-- something was not left pending
+abbrev pub IsNotShort : Why → Type 0
+IsNotShort why.OutOfMemory = Unit {0}
+IsNotShort (why.LivesSpent k l c) = Unit {0}
+IsNotShort (why.ScheduleShort pending) = ⊥

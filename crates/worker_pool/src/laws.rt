@@ -1,14 +1,14 @@
 //! What a closed table comes to: the value with its records, or why there is none.
-ghost use Rattle.std.specs.Prelude.{◌≡◌, List, ℕ};
+ghost use Rattle.std.specs.Prelude.{◌≡◌, IfErr, List, ℕ};
 ghost use Rattle.core_state.specs.Counts.{count};
 ghost use Rattle.core_state.specs.Tests.{is_computed};
 ghost use Rattle.core_state.specs.Rooted.{setting_of};
-ghost use Rattle.core_steps.specs.Table.{IsClosing};
 ghost use Rattle.core_state.specs.declared.views.View.{View};
 ghost use Rattle.graph_model.specs.Serial.{Outcome};
 ghost use Rattle.graph_model.specs.declared.plan.Strike.{Strike};
-ghost use Rattle.worker_pool.specs.Closing.{ClosedTells, EndedBy, StopShown, WithRoot, is_whole};
-ghost use Rattle.worker_pool.specs.Ends.{HasAllRecords, RunTells};
+ghost use Rattle.worker_pool.specs.Closing.{ClosedTells, EndedBy, IsQuietStop, StopShown, WithRoot, is_whole};
+ghost use Rattle.worker_pool.specs.Ends.{HasAllRecords, IsNotShort, RunTells};
+ghost use Rattle.worker_pool.specs.Joining.{HaveEnded};
 ghost use Rattle.worker_pool.specs.Pooling.{StopTells};
 
 use crate::end::Why;
@@ -31,7 +31,7 @@ fn laws_of<C: Course>(closed: &Closed<C>)
 
 /// Why the life is suspected that ended the turns, if one did.
 pub(crate) fn stop_shown<C: Course>(closed: &Closed<C>, stop: Stop)
-    ensures { (vs : List View) → IsClosing C.setting vs closed.now.words.items closed.now.blocks.items closed.now.records.items closed.now.root_replaced.items → StopTells C.setting vs stop → StopShown C.setting closed.now.records.items closed.now.root_replaced.items stop }
+    ensures { (vs : List View) → HaveEnded C.setting vs closed.now.words.items closed.now.blocks.items closed.now.records.items closed.now.root_replaced.items → StopTells C.setting vs stop → StopShown C.setting closed.now.records.items closed.now.root_replaced.items stop }
 {
     let _ = stop;
     suspected(closed);
@@ -99,6 +99,7 @@ pub(crate) fn ended<C: Course, G: TaskGraph>(
 ) -> (Result<Cells, Why>, Vec<Record>)
     requires { StopShown C.setting closed.records.items closed.root_replaced.items stop }
     ensures tells { (outcome : Outcome) (strikes : List Strike) (lives : ℕ) → C.setting ≡ setting_of (G.graph graph.now) outcome strikes lives → RunTells (G.graph graph.now) outcome strikes lives result.0 result.1.items }
+    ensures waits { IsQuietStop stop closed.pending → IfErr result.0 IsNotShort }
     ensures computed { HasAllRecords result.0 → (k l : ℕ) → count (is_computed k l) result.1.items ≡ count (is_computed k l) closed.records.items }
 {
     laws_of(&closed);

@@ -1,13 +1,18 @@
 //! The virtual workers at one table, and their turns.
-ghost use Rattle.std.specs.Prelude.{◌≡◌, ◌≢◌, ◌<◌, ◌≤◌, All, IfOk, IfSome, List, Option, [], length, map, slice_get, true};
+ghost use Rattle.std.specs.Prelude.{◌≡◌, ◌≢◌, ◌%◌, ◌<◌, ◌≤◌, All, IfOk, IfSome, List, OnOk, Option, Some, [], length, map, slice_get, slice_index, true};
 ghost use Rattle.recovery.specs.Memory.{SameResults};
 ghost use Rattle.compute_notify.specs.Running.{Runs};
 ghost use Rattle.core_state.specs.Graph.{Setting};
 ghost use Rattle.core_state.specs.declared.views.View.{View};
-ghost use Rattle.core_steps.specs.Table.{IsClosing, view_in};
+ghost use Rattle.core_state.specs.Rooted.{root_key};
+ghost use Rattle.core_steps.specs.Table.{IsSound, view_in};
 ghost use Rattle.graph_model.specs.Graph.{Graph};
 ghost use Rattle.graph_model.specs.Notes.{Note};
+ghost use Rattle.run_bounds.specs.Budgets.{IsCalmRun};
 ghost use Rattle.worker_pool.specs.Calling.{AreAlike, SameKernels};
+ghost use Rattle.worker_pool.specs.Calming.{BeginsCalm, HasMadeTurns, PaysTurn, TakesOwn};
+ghost use Rattle.worker_pool.specs.Closing.{IsQuietStop};
+ghost use Rattle.worker_pool.specs.Joining.{HaveEnded};
 ghost use Rattle.worker_pool.specs.Pooling.{AreNew, IsRun, KernelsCalled, KernelsMake, OthersStay, StopTells, WorkersHold};
 ghost use Rattle.worker_pool.specs.Working.{SpentShown, is_idle};
 
@@ -41,6 +46,7 @@ fn hint_for(workers: &mut Vec<Worker>, worker: usize) -> Option<u32>
     ensures works { map (λ w. w.work) workers.new.items ≡ map (λ w. w.work) workers.old.items }
     ensures holds { (g : Graph) (e : Setting) (vs : List View) → WorkersHold g e vs workers.old.items → WorkersHold g e vs workers.new.items }
     ensures row { (g : Graph) (e : Setting) (vs : List View) → WorkersHold g e vs workers.old.items → IfSome result (λ row. row < e.shape.rows) }
+    ensures own { (w : Worker) → length workers.old.items ≡ 1 → slice_get workers.old.items 0 ≡ Some w → TakesOwn result w workers.new.items }
 {
     if let Some(row) = workers[worker].newest_hint() {
         return Some(row);
@@ -54,8 +60,16 @@ fn hint_for(workers: &mut Vec<Worker>, worker: usize) -> Option<u32>
     None
 }
 
-// Workers without work, of which the first is to explore the root.
-fn new_workers<G: TaskGraph>(
+/// The row of the root in a table of so many rows.
+pub(crate) fn root_row(rows: u32) -> u32
+    requires { 0 < rows }
+    ensures { result ≡ root_key % rows }
+{
+    (ROOT.0 % u64::from(rows)) as u32
+}
+
+/// Workers without work, of which the first is to explore the root.
+pub(crate) fn new_workers<G: TaskGraph>(
     alloc: Global,
     graph: &G,
     root_row: u32,
@@ -85,13 +99,14 @@ impl<C: Course> Pool<C> {
         ensures posted { IfOk result (λ pool. pool.posted ≡ []) }
         ensures count { IfOk result (λ pool. length pool.workers.items ≡ workers) }
         ensures calls { IfOk result (λ pool. (before : List (Option (List Note))) → length before ≡ workers → KernelsCalled before before pool.table.views) }
+        ensures calm { IfOk result (λ pool. workers ≡ 1 → IsCalmRun (G.graph graph.now) C.setting → IsSound C.setting pool.table → HasMadeTurns C.setting pool.table pool.workers.items 0) }
     {
         let layout = Layout::of(alloc, graph)?;
-        let root_row = (ROOT.0 % u64::from(layout.rows)) as u32;
+        let row = root_row(layout.rows);
         let table = PlainTable::new(alloc, layout, workers)?;
         Ok(Pool {
             table,
-            workers: new_workers(alloc, graph, root_row, workers)?,
+            workers: new_workers(alloc, graph, row, workers)?,
             posted: Hints::new(alloc)?,
         })
     }
@@ -105,6 +120,7 @@ impl<C: Course> Pool<C> {
         ensures results { SameResults (view_in self.old.table.views worker) (view_in self.new.table.views worker) }
         ensures others { OthersStay self.old.table.views self.new.table.views worker }
         ensures posted { self.new.posted ≡ self.old.posted }
+        ensures calm { (g : Graph) → WorkersHold g C.setting self.old.table.views self.old.workers.items → PaysTurn g C.setting self.old.table self.old.workers.items self.new.table self.new.workers.items }
     {
         let at = worker as usize;
         if let Some(row) = hint_for(&mut self.workers, at) {
@@ -135,6 +151,7 @@ impl<C: Course> Pool<C> {
         ensures outcome { KernelsMake (G.graph terms.now.graph.now) C.setting Ke.outcome Ke.fits kernels.new.items }
         ensures kernels { (before : List Ke) → SameKernels Ke.outcome Ke.fits before kernels.old.items → SameKernels Ke.outcome Ke.fits before kernels.new.items }
         ensures count { length self.new.table.views ≡ length self.old.table.views }
+        ensures calm { OnOk result (terms.now.plan.now ≡ [] → PaysTurn (G.graph terms.now.graph.now) C.setting self.old.table self.old.workers.items self.new.table self.new.workers.items) }
     {
         let at = worker as usize;
         if self.workers[at].is_idle() {
@@ -177,6 +194,7 @@ impl<C: Course> Pool<C> {
         ensures calls { (before : List (Option (List Note))) → KernelsCalled before (map Ke.calls kernels.old.items) self.old.table.views → KernelsCalled before (map Ke.calls kernels.new.items) self.new.table.views }
         ensures kernels { SameKernels Ke.outcome Ke.fits kernels.old.items kernels.new.items }
         ensures count { length self.new.table.views ≡ length self.old.table.views }
+        ensures calm { BeginsCalm (G.graph terms.now.graph.now) terms.now.plan.now C.setting self.old.table self.old.workers.items turns → IsQuietStop result (slice_index self.new.table.words 0) }
     {
         for i in 0..turns {
             if self.table.pending() == 0 {
@@ -197,7 +215,8 @@ impl<C: Course> Pool<C> {
 
     /// The closed table, or None where room for all records was refused.
     pub(crate) fn close(self) -> Option<Closed<C>>
-        ensures { IfSome result (λ closed. IsClosing C.setting self.table.views closed.words.items closed.blocks.items closed.records.items closed.root_replaced.items) }
+        ensures closing { IfSome result (λ closed. HaveEnded C.setting self.table.views closed.words.items closed.blocks.items closed.records.items closed.root_replaced.items) }
+        ensures words { IfSome result (λ closed. closed.words.items ≡ self.table.words) }
     {
         let Pool {
             mut table,

@@ -1,5 +1,6 @@
 //! A worker: a task or a hint in service, and hints.
-ghost use Rattle.std.specs.Prelude.{◌≡◌, ◌≢◌, ◌<◌, ◌≤◌, All, IfOk, IfSome, List, OnErr, Option, Some, [], true, ℕ};
+ghost use Rattle.std.specs.Prelude.{◌≡◌, ◌≢◌, ◌+◌, ◌<◌, ◌≤◌, All, IfOk, IfSome, List, MatchOption, OnErr, OnOk, Option, Some, [], false, length, true, ℕ};
+ghost use Rattle.std.specs.VecDeque.{deque_capacity, deque_len};
 ghost use Rattle.compute_notify.specs.Eventing.{item_hints};
 ghost use Rattle.compute_notify.specs.Items.{job_item};
 ghost use Rattle.compute_notify.specs.Rooms.{HasRoom};
@@ -7,10 +8,16 @@ ghost use Rattle.compute_notify.specs.Running.{Makes, Runs, SameKernel};
 ghost use Rattle.compute_notify.specs.Tasks.{HasSpace, Holds, IsNew, IsNext, NewCalls, TaskScratch, TaskTells, task_items};
 ghost use Rattle.compute_notify.specs.declared.item.Item.{Item};
 ghost use Rattle.core_state.specs.Asked.{IsCoreKey};
+ghost use Rattle.core_state.specs.Graph.{Setting};
+ghost use Rattle.core_state.specs.declared.views.View.{View};
 ghost use Rattle.graph_model.specs.Graph.{Graph};
 ghost use Rattle.graph_model.specs.Notes.{Note};
 ghost use Rattle.recovery.specs.Memory.{KnowsKey, SameResults};
+ghost use Rattle.run_bounds.specs.Budgets.{IsCalmRun};
+ghost use Rattle.run_bounds.specs.Hinting.{HintTaken, HintsPut};
+ghost use Rattle.run_bounds.specs.Ledger.Doing.{asks, idle};
 ghost use Rattle.worker_pool.specs.Calling.{HasCalled};
+ghost use Rattle.worker_pool.specs.Calming.{GoesOn, TurnsTask, doing_of};
 ghost use Rattle.worker_pool.specs.Working.{IsIdle, IsNewWorker, KeepsTable, NamesTasks, SpentShown, WorkHolds, WorkScratch, WorkerHolds, is_idle, spent_of};
 
 use compute_notify::{Run, Scratch, Task};
@@ -88,13 +95,15 @@ fn spent_of(turn: Turn) -> Option<Spent>
     }
 }
 
-// Keeps the rows of a turn as hints. One that finds no room goes.
+// Keeps the rows of a turn as hints, for which there is room.
 fn keep(hints: &mut VecDeque<u32>, posted: &mut Hints)
+    requires room { deque_len hints.old + length posted.old ≤ deque_capacity hints.old }
     ensures posted { posted.new ≡ [] }
+    ensures put { HintsPut hints.old.items posted.old hints.new.items }
     ensures hints { (rows : ℕ) → All (λ row. row < rows) hints.old.items → All (λ row. row < rows) posted.old → All (λ row. row < rows) hints.new.items }
 {
     while let Some(row) = posted.pop() {
-        let _ = hints.push_back(row);
+        hints.push_back_reserved(row);
     }
 }
 
@@ -123,6 +132,7 @@ fn serve<T: Steps>(
     ensures err { OnErr result (T.view steps.new ≡ T.view steps.old) }
     ensures results { SameResults (T.view steps.old) (T.view steps.new) }
     ensures table { KeepsTable T.setting T.lender T.others steps.old steps.new }
+    ensures calm { (g : Graph) (hints : List ℕ) → IsCalmRun g (T.setting steps.old) → IfOk result (λ work. GoesOn T.view T.happened (T.setting steps.old) (asks row key.0 job) hints steps.old (doing_of work) hints steps.new) }
 {
     steps.reserve(1)?;
     let life = steps.take(row, job);
@@ -166,6 +176,7 @@ fn turn_of<T: Steps, G: TaskGraph, Ke: Kernel>(
     ensures kernel { SameKernel (Ke.outcome kernel.old) (Ke.outcome kernel.new) (Ke.fits kernel.old) (Ke.fits kernel.new) }
     ensures posted { (left : List Item) (x : Item) → IsNext (T.setting steps.old).graph terms.now.plan.now (task_items task.old) left (Some x) → posted.new ≡ item_hints x posted.old }
     ensures table { KeepsTable T.setting T.lender T.others steps.old steps.new }
+    ensures turned { TurnsTask T.view T.happened (T.setting steps.old) terms.now.plan.now steps.old steps.new task.old task.new posted.new result }
 {
     let mut run = Run {
         graph: terms.graph,
@@ -201,7 +212,9 @@ fn work_on<T: Steps, G: TaskGraph, Ke: Kernel>(
     ensures calls { (before : Option (List Note)) → HasCalled before (Ke.calls kernel.old) (T.view steps.old) → HasCalled before (Ke.calls kernel.new) (T.view steps.new) }
     ensures kernel { SameKernel (Ke.outcome kernel.old) (Ke.outcome kernel.new) (Ke.fits kernel.old) (Ke.fits kernel.new) }
     ensures posted { All (λ row. row < (T.setting steps.old).shape.rows) posted.new }
+    ensures few { length posted.new ≤ 2 }
     ensures table { KeepsTable T.setting T.lender T.others steps.old steps.new }
+    ensures turned { IfOk result (λ turn. TurnsTask T.view T.happened (T.setting steps.old) terms.now.plan.now steps.old steps.new task.old task.new posted.new turn) }
 {
     steps.reserve(ROOM)?;
     task.reserve()?;
@@ -234,11 +247,35 @@ impl Worker {
         matches!(self.work, Work::Idle)
     }
 
+    /// Whether a block is in hand.
+    pub(crate) fn has_block(&self) -> bool
+        ensures none { result ≡ false → (g : Graph) (e : Setting) (v : View) → WorkerHolds g e v self.now → v.hands ≡ [] }
+    {
+        match &self.work {
+            Work::Busy { task } => task.has_block(),
+            Work::Idle
+            | Work::Serve {
+                row: _,
+                key: _,
+                job: _,
+            } => false,
+        }
+    }
+
+    /// Keeps a hint as the oldest.
+    pub(crate) fn keep_oldest(&mut self, row: u32)
+        ensures same { self.new ≡ record self.old { hints = self.new.hints } }
+        ensures hints { (rows : ℕ) → row < rows → All (λ row. row < rows) self.old.hints.items → All (λ row. row < rows) self.new.hints.items }
+    {
+        let _ = self.hints.push_front(row);
+    }
+
     /// Takes the newest hint.
     pub(crate) fn newest_hint(&mut self) -> Option<u32>
         ensures same { self.new ≡ record self.old { hints = self.new.hints } }
         ensures hints { (rows : ℕ) → All (λ row. row < rows) self.old.hints.items → All (λ row. row < rows) self.new.hints.items }
         ensures row { (rows : ℕ) → All (λ row. row < rows) self.old.hints.items → IfSome result (λ row. row < rows) }
+        ensures taken { MatchOption result (self.old.hints.items ≡ []) (λ row. HintTaken self.old.hints.items row self.new.hints.items) }
     {
         self.hints.pop_back()
     }
@@ -259,6 +296,7 @@ impl Worker {
         ensures holds { (g : Graph) → NamesTasks g (T.setting steps.old) → WorkerHolds g (T.setting steps.old) (T.view steps.old) self.old → WorkerHolds g (T.setting steps.old) (T.view steps.new) self.new }
         ensures results { SameResults (T.view steps.old) (T.view steps.new) }
         ensures table { KeepsTable T.setting T.lender T.others steps.old steps.new }
+        ensures calm { (hints : List ℕ) → HintTaken hints row self.old.hints.items → GoesOn T.view T.happened (T.setting steps.old) idle hints steps.old (doing_of self.new.work) self.new.hints.items steps.new }
     {
         if let Seen::Holds { key } = steps.look(row) {
             self.work = Work::Serve {
@@ -288,6 +326,7 @@ impl Worker {
         ensures kernel { SameKernel (Ke.outcome kernel.old) (Ke.outcome kernel.new) (Ke.fits kernel.old) (Ke.fits kernel.new) }
         ensures posted { posted.new ≡ [] }
         ensures table { KeepsTable T.setting T.lender T.others steps.old steps.new }
+        ensures calm { OnOk result (terms.now.plan.now ≡ [] → IsCalmRun (G.graph terms.now.graph.now) (T.setting steps.old) → is_idle self.old.work ≡ false → GoesOn T.view T.happened (T.setting steps.old) (doing_of self.old.work) self.old.hints.items steps.old (doing_of self.new.work) self.new.hints.items steps.new) }
     {
         match &mut self.work {
             Work::Idle => Ok(None),

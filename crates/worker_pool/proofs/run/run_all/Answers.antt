@@ -1,5 +1,11 @@
-use Rattle.std.proofs.Common.{◌≡◌, length, map, ap, arith}
+use Rattle.std.proofs.Common.{◌≡◌, ◌∙◌, ℕ, List, length, map, slice_index, ap, arith, subst, sym}
 use Rattle.std.proofs.lemmas.List.{length-map}
+use Rattle.graph_model.specs.declared.plan.Strike.{Strike}
+use Rattle.compute_notify.specs.Running.{Runs}
+use Rattle.run_bounds.specs.Budgets.{IsCalmRun}
+use Rattle.worker_pool.specs.Calling.{first_outcome}
+use Rattle.worker_pool.specs.Calming.{BeginsCalm}
+use Rattle.worker_pool.specs.Closing.{IsQuietStop}
 use Rattle.core_laws.proofs.Holding.{of_tasks}
 use Rattle.worker_pool.proofs.Sums.{all_recorded, none_called_at_all, only_called, run_calls}
 use Rattle.worker_pool.proofs.run.run_all.Goals as goal
@@ -14,7 +20,7 @@ returns-in_default-close-clause-calls g c =
     only_called before _ c.run-stop.new.self.table.views (omega (arith, n, run.count, pool.holds.same_count, pool.count, c.len.ensures)) (run.calls before (pool.calls before (omega (arith, n, c.len.ensures))))
 
 pub ended-requires-after_bounds : goal.ended-requires-after_bounds
-ended-requires-after_bounds g c κs within = c.stop_shown.ensures c.run-stop.new.self.table.views c.in-Some.ensures c.run-stop.ensures.stop
+ended-requires-after_bounds g c κs within = c.stop_shown.ensures c.run-stop.new.self.table.views c.in-Some.ensures.closing c.run-stop.ensures.stop
 
 pub returns-clause-tells : goal.returns-clause-tells
 returns-clause-tells g c = c.ended.ensures.tells _ _ _ c.requires.setting
@@ -26,4 +32,14 @@ returns-clause-calls g c =
     let many : length vs ≡ length before = omega (arith, n, run.count, pool.holds.same_count, pool.count, c.len.ensures) in
     let called = run.calls before (pool.calls before (omega (arith, n, c.len.ensures))) in
     run_calls before _ c.ended.result.0 c.ended.result.1.items (only_called before _ vs many called)
-    (λ all. all_recorded e vs left.words.items left.blocks.items left.records.items left.root_replaced.items c.ended.result.1.items before _ c.in-Some.ensures (ap (λ s. s.graph.root) c.requires.setting) (of_tasks e _ _ _ _ left.meets) many called (c.ended.ensures.computed all))
+    (λ all. all_recorded e vs left.words.items left.blocks.items left.records.items left.root_replaced.items c.ended.result.1.items before _ c.in-Some.ensures.closing (ap (λ s. s.graph.root) c.requires.setting) (of_tasks e _ _ _ _ left.meets) many called (c.ended.ensures.computed all))
+
+pub returns-clause-calm : goal.returns-clause-calm
+returns-clause-calm g c = λ one empty enough.
+    let tasks = g.G.TaskGraph.graph c.args.terms.now.graph.now in let e = g.C.Course.setting in let pool = c.in-Ok.ensures in let begun = c.in-Ok.pool in let after = c.run-stop.new.self in let closed = c.in-Some.closed in
+    let workers : c.len.result ≡ 1 = omega (arith, c.len.ensures, one) in
+    let run : IsCalmRun tasks e = record { outcome = first_outcome g.Ke.Kernel.outcome c.args.kernels.now.items; strikes = c.args.terms.now.plan.now; lives = c.args.terms.now.lives; setting_is = c.requires.setting; runs = subst (λ (p : List Strike). Runs tasks p c.args.terms.now.lives e) empty c.requires.runs } in
+    let alone : length begun.table.views ≡ 1 = omega (arith, pool.holds.same_count, pool.count, workers) in
+    let begins : BeginsCalm tasks c.args.terms.now.plan.now e begun.table begun.workers.items c.args.turns = record { run = run; no_strikes = empty; one = alone; enough = enough; none_made = pool.calm workers run } in
+    let pending : slice_index after.table.words 0 ≡ closed.pending = ap (λ (ws : List ℕ). slice_index ws 0) (sym c.in-Some.ensures.words) ∙ sym closed.pending_is in
+    c.ended.ensures.waits (subst (IsQuietStop c.run-stop.result) pending (c.run-stop.ensures.calm begins))

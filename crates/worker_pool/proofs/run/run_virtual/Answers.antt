@@ -1,6 +1,7 @@
 use Rattle.std.proofs.Common.{subst}
+use Rattle.std.proofs.lemmas.Result.{IfErr-at_err}
 use Rattle.worker_pool.specs.Calling.{first_outcome}
-use Rattle.worker_pool.specs.Ends.{RunTells}
+use Rattle.worker_pool.specs.Ends.{IsNotShort, RunTells}
 use Rattle.worker_pool.proofs.Completing.{complete, answers_finished}
 use Rattle.worker_pool.proofs.Settings.{is_run, kernels_make, runs}
 use Rattle.worker_pool.proofs.run.run_virtual.Goals as goal
@@ -29,3 +30,6 @@ pub returns-in-Err-clause-complete : goal.returns-in-Err-clause-complete
 returns-in-Err-clause-complete g c =
     let laws = (g.met.G.TaskGraph g.world.𝓛 g.world.𝓜 g.world.𝓡 ((λ s x. x), (λ x. x), (λ x. x), λ x. x)).lawful c.args.graph.now in let a = c.args in let outcome = first_outcome g.Ke.Kernel.outcome a.kernels.items in let records = c.run_all-value.result.1.items in
     complete _ outcome laws a.plan.now a.lives c.in-Err.why records (subst (λ r. RunTells (g.G.TaskGraph.graph a.graph.now) outcome a.plan.now a.lives r records) c.in-Err.is c.run_all-value.ensures.tells)
+
+pub returns-in-Err-clause-calm : goal.returns-in-Err-clause-calm
+returns-in-Err-clause-calm g c = λ one empty enough. IfErr-at_err IsNotShort c.in-Err.is (c.run_all-value.ensures.calm one empty enough)

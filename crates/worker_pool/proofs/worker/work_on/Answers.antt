@@ -1,16 +1,15 @@
-use Rattle.std.proofs.Common.{◌≡◌, ◌∙◌, List, Option, Some, ap, subst, sym}
+use Rattle.std.proofs.Common.{List, Option, Some, subst, sym}
 use Rattle.graph_model.specs.Notes.{Note}
 use Rattle.core_state.specs.Graph.{Setting}
 use Rattle.core_state.specs.declared.views.View.{View}
-use Rattle.compute_notify.specs.Tasks.{IsNext, NewCalls, SameTask, begun_items, task_items}
+use Rattle.compute_notify.specs.Tasks.{IsNext, NewCalls, task_items}
 use Rattle.compute_notify.specs.declared.item.Item.{Item}
-use Rattle.compute_notify.specs.declared.task.Task.{Task}
+use Rattle.run_bounds.specs.Ledger.{TaskTurned}
+use Rattle.worker_pool.specs.Calming.{StepsCore}
 use Rattle.worker_pool.proofs.Calls.{called_on}
-use Rattle.worker_pool.proofs.Hinting.{turn_rows}
+use Rattle.worker_pool.proofs.Calming.Tasks.{items_as, reserved_turned}
+use Rattle.worker_pool.proofs.Hinting.{turn_few, turn_rows}
 use Rattle.worker_pool.proofs.worker.work_on.Goals as goal
-
-items_as : (t u : Task) → SameTask t u → task_items u ≡ task_items t
-items_as t u same = ap (λ (b : Option Item). begun_items b u.items.items) same.same_begins ∙ ap (begun_items t.begins) same.same_items
 
 pub returns-clause-calls : goal.returns-clause-calls
 returns-clause-calls g c = λ before. let now = g.Ke.Kernel.calls c.turn_of.new.kernel in let w = g.T.Steps.view c.turn_of.new.steps in
@@ -24,3 +23,17 @@ returns-clause-posted g c = let r = c.requires in let e = g.T.Steps.setting c.ar
     (λ left x is. c.turn_of.ensures.posted left x
     (subst (λ (d : Setting). IsNext d.graph strikes (task_items task) left (Some x)) (sym c.reserve.ensures.table.same_setting)
     (subst (λ (xs : List Item). IsNext e.graph strikes xs left (Some x)) (sym (items_as c.args.task.now task c.reserve-2.ensures.same)) is)))
+
+pub returns-clause-few : goal.returns-clause-few
+returns-clause-few g c = let r = c.requires in let e = g.T.Steps.setting c.args.steps.now in let strikes = c.args.terms.now.plan.now in let task = c.reserve-2.new.self in
+    turn_few e.graph strikes c.args.task.now c.args.posted.now _ r.holds.bottom r.some r.posted
+    (λ left x is. c.turn_of.ensures.posted left x
+    (subst (λ (d : Setting). IsNext d.graph strikes (task_items task) left (Some x)) (sym c.reserve.ensures.table.same_setting)
+    (subst (λ (xs : List Item). IsNext e.graph strikes xs left (Some x)) (sym (items_as c.args.task.now task c.reserve-2.ensures.same)) is)))
+
+pub returns-clause-turned : goal.returns-clause-turned
+returns-clause-turned g c = λ t empty steps goes. let e = g.T.Steps.setting c.args.steps.now in let v = g.T.Steps.view c.args.steps.now in let w = g.T.Steps.view c.turn_of.new.steps in let r = c.reserve.ensures in let task = c.reserve-2.new.self in
+    reserved_turned e v w t c.args.task.now task c.turn_of.new.task c.turn_of.new.posted c.reserve-2.ensures.same
+    (subst (λ (u : View). TaskTurned e u w t task c.turn_of.new.task c.turn_of.new.posted) r.view
+    (subst (λ (d : Setting). TaskTurned d (g.T.Steps.view c.reserve.new.self) w t task c.turn_of.new.task c.turn_of.new.posted) r.table.same_setting
+    (c.turn_of.ensures.turned t empty (subst (λ (d : Setting). StepsCore g.T.Steps.view g.T.Steps.happened d c.turn_of.new.steps t) (sym r.table.same_setting) steps) goes)))

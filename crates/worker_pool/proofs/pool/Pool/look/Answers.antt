@@ -1,8 +1,16 @@
-use Rattle.std.proofs.Common.{◌<◌, arith, length, subst, sym}
+use Rattle.std.proofs.Common.{◌≡◌, ◌∙◌, ℕ, ◌+◌, ◌<◌, Some, true, arith, length, slice_get, subst, sym}
 use Rattle.core_state.specs.declared.views.View.{View}
 use Rattle.core_steps.specs.Table.{view_at, view_in}
 use Rattle.recovery.specs.Memory.{SameResults}
-use Rattle.worker_pool.specs.Working.{WorkerHolds}
+use Rattle.run_bounds.specs.Calm.{core_in}
+use Rattle.run_bounds.specs.Ledger.{Ledger}
+use Rattle.run_bounds.specs.Ledger.Doing.{idle}
+use Rattle.core_steps.specs.Table.{Plain, WordsAfter}
+use Rattle.worker_pool.specs.Calming.{doing_of}
+use Rattle.worker_pool.specs.Working.{WorkerHolds, is_idle}
+use Rattle.worker_pool.specs.declared.worker.Work.{Work}
+use Rattle.worker_pool.proofs.Calming.Tables.{idle_pays, only_worker, read_first, seat_pays, set_turned}
+use Rattle.worker_pool.proofs.Turns.{idle_is}
 use Rattle.worker_pool.proofs.Pooling.{held_at, lent_once, run_names, still_idle, workers_hold}
 use Rattle.worker_pool.proofs.pool.Pool.look.Goals as goal
 
@@ -32,3 +40,32 @@ returns-in-Some-clause-results g c = let i = c.args.worker in let table = c.args
 
 pub returns-in_default-clause-holds : goal.returns-in_default-clause-holds
 returns-in_default-clause-holds g c = λ tasks run hold. c.hint_for.ensures.holds tasks _ _ hold
+
+pub returns-in-Some-clause-calm : goal.returns-in-Some-clause-calm
+returns-in-Some-clause-calm g c = λ tasks hold. record {
+  pays = λ run one sound later some turns turned. let e = g.C.Course.setting in let i = c.args.worker in let table = c.args.self.now.table in let seat = c.seat-seat.result in let left = c.look.new.steps in let back = c.drop-seat.new.self.0 in
+      let is = c.seat-seat.ensures in let same = c.look.ensures.table in let ws = c.args.self.now.workers.items in let us = c.hint_for.new.workers.items in let u = c.index_mut.result.now in
+      let turn = lent_once table seat.table.now left.table.now back i seat.worker left.worker _ _ is.table is.worker c.drop-seat.ensures same.same_lender same.same_others in
+      let kept = c.hint_for.ensures.holds tasks e table.views hold in
+      let alone : length ws ≡ 1 = hold.same_count ∙ one in
+      let first : i ≡ 0 = (let a = c.requires.worker in omega (arith, a, alone)) in
+      let low : i < length us = (let a = kept.same_count in omega (arith, a, one, first)) in
+      let only = only_worker ws alone in
+      let read : slice_get us 0 ≡ Some u = read_first us i u first low c.index_mut.ensures.value in
+      let idled : is_idle only.0.work ≡ true = c.requires.idle only.0 (subst (λ (j : ℕ). slice_get ws j ≡ Some only.0) (sym first) only.1) in
+      set_turned e back us i c.look.new.self (turns + 1) first
+      (seat_pays _ _ tasks e table back i seat left idle (doing_of c.look.new.self.work) only.0.hints.items c.look.new.self.hints.items (c.look.ensures.calm only.0.hints.items (c.in-Some.ensures.own only.0 alone only.1 u read)) run one (turn.others.same_count ∙ one) sound later first turn.before turn.after
+      (λ ready x n did. (ready.table.now.words, subst (λ (q : Plain). WordsAfter e x n ready.table.now.words q.words) (sym c.drop-seat.ensures) did))
+      turns
+      (subst (λ (x : Work). Ledger e (core_in table) (view_at table 0) (doing_of x) only.0.hints.items turns) (idle_is only.0.work idled) (turned only.0 only.1)));
+}
+
+pub returns-in_default-clause-calm : goal.returns-in_default-clause-calm
+returns-in_default-clause-calm g c = λ tasks hold. record {
+  pays = λ run one sound later some turns turned. let e = g.C.Course.setting in let i = c.args.worker in let table = c.args.self.now.table in let ws = c.args.self.now.workers.items in
+      let alone : length ws ≡ 1 = hold.same_count ∙ one in
+      let first : i ≡ 0 = (let a = c.requires.worker in omega (arith, a, alone)) in
+      let only = only_worker ws alone in
+      let idled : is_idle only.0.work ≡ true = c.requires.idle only.0 (subst (λ (j : ℕ). slice_get ws j ≡ Some only.0) (sym first) only.1) in
+      (idle_pays tasks e table table ws c.hint_for.new.workers.items only.0 hold only.1 idled (c.in_default.ensures.own only.0 alone only.1)).pays run one sound later some turns turned;
+}

@@ -1,4 +1,5 @@
-use Rattle.std.proofs.Common.{◌%◌, ◌∙◌, arith, length, refl, slice_index_or}
+use Rattle.std.proofs.Common.{◌≡◌, ◌%◌, ◌∙◌, arith, length, refl, slice_index_or}
+use Rattle.worker_pool.proofs.Calming.Tables.{begins_midway, goes_midway}
 use Rattle.worker_pool.proofs.Pooling.{scheduled}
 use Rattle.worker_pool.proofs.pool.Pool.run.Goals as goal
 
@@ -10,6 +11,7 @@ loop-i-init g c = let r = c.requires in record {
   same = record { same_count = refl; same_outcome = r.alike.same_outcome; same_fits = r.alike.same_fits };
   views = refl;
   called = λ before called. called;
+  calm = λ begins. begins_midway (g.G.TaskGraph.graph c.args.terms.now.graph.now) g.C.Course.setting c.args.self.now.table c.args.self.now.workers.items c.args.turns begins.enough begins.none_made;
 }
 
 pub turn-requires-clause-worker : goal.turn-requires-clause-worker
@@ -42,4 +44,11 @@ loop-i-preserved g c = let turn = c.turn.ensures in let before = c.loop-i.invari
   same = turn.kernels _ before.same;
   views = turn.count ∙ before.views;
   called = λ calls called. turn.calls calls (before.called calls called);
+  calm = λ begins. let p = c.loop-i.self.table in let ws = c.loop-i.self.workers.items in
+      let one : length p.views ≡ 1 = before.views ∙ begins.one in
+      goes_midway (g.G.TaskGraph.graph c.args.terms.now.graph.now) g.C.Course.setting p ws c.turn.new.self.table c.turn.new.self.workers.items c.loop-i.i c.args.turns begins.run begins.enough one (before.holds.same_count ∙ one) c.pending.ensures.sound
+      (λ none. c.if-pending-eq0.false (c.pending.ensures.word ∙ none)) (c.in-Ok-None.ensures.calm begins.no_strikes) (before.calm begins);
 }
+
+pub returns-clause-calm : goal.returns-clause-calm
+returns-clause-calm g c = λ begins. absurd (let few = (c.loop-i.invariant.calm begins).few in omega (arith, few))
