@@ -1,11 +1,18 @@
 //! Commands that are run on sources and sinks in memory.
 
-use graph_model::{Keys, ListProbe, Record, Text};
+use graph_model::{Keys, ListProbe, Probe, Record, Text};
 use graph_runner::{End, run_command};
 use io_edge::{MemSink, MemSource, read_all};
 use std::alloc::{AllocError, Global};
 use std::process::Abort;
+use std::sync::Wait;
 use std::test::Fail;
+use std::thread::Threads;
+
+/// What the runtime of a test can do.
+pub(crate) trait Runtime: Abort + Threads + Wait + Sync {}
+
+impl<R: Abort + Threads + Wait + Sync> Runtime for R {}
 
 /// Four tasks: two read the first, and the last reads these two.
 pub(crate) const DIAMOND: &str =
@@ -33,14 +40,14 @@ pub(crate) const WHOLE: Pace = Pace {
 
 /// What a command came to.
 #[derive(Drop)]
-pub(crate) struct Answer {
+pub(crate) struct Answer<P> {
     pub(crate) status: u8,
     pub(crate) message: Text,
     pub(crate) written: Vec<u8>,
     /// How many bytes of the input were not read.
     pub(crate) unread: usize,
     pub(crate) records: Vec<Record>,
-    pub(crate) probes: Vec<ListProbe>,
+    pub(crate) probes: Vec<P>,
 }
 
 fn probes_of(alloc: Global) -> Result<Vec<ListProbe>, AllocError> {
@@ -68,15 +75,16 @@ fn faults_of(alloc: Global, fault: u64) -> Result<Keys, AllocError> {
     Ok(faults)
 }
 
-/// Runs the words of a line on a text.
-pub(crate) fn answer_of(
-    rt: &impl Abort,
+/// Runs the words of a line on a text, with these probes.
+pub(crate) fn answer_with<P: Probe + Drop>(
+    rt: &impl Runtime,
     alloc: Global,
     line: &str,
     text: Text,
     read: Pace,
     write: Pace,
-) -> Result<Answer, Fail> {
+    probes: Vec<P>,
+) -> Result<Answer<P>, Fail> {
     let words = words_of(alloc, line)?;
     assert!(rt; read.per_call > 0);
     assert!(rt; write.per_call > 0);
@@ -86,10 +94,9 @@ pub(crate) fn answer_of(
         write.per_call,
         faults_of(alloc, write.fault)?,
     );
-    sink.reserve(4096)?;
-    let probes = probes_of(alloc)?;
+    sink.reserve(1_000_000)?;
     assert_eq!(rt; probes.len(), 64);
-    let end = run_command(alloc, words.as_slice(), &mut source, &mut sink, probes);
+    let end = run_command(rt, alloc, words.as_slice(), &mut source, &mut sink, probes);
     let End {
         status,
         message,
@@ -110,13 +117,26 @@ pub(crate) fn answer_of(
     })
 }
 
+/// Runs the words of a line on a text, with probes that keep their notes.
+pub(crate) fn answer_of(
+    rt: &impl Runtime,
+    alloc: Global,
+    line: &str,
+    text: Text,
+    read: Pace,
+    write: Pace,
+) -> Result<Answer<ListProbe>, Fail> {
+    let probes = probes_of(alloc)?;
+    answer_with(rt, alloc, line, text, read, write, probes)
+}
+
 /// Runs the words of a line on bytes that come and go whole.
 pub(crate) fn answer_on(
-    rt: &impl Abort,
+    rt: &impl Runtime,
     alloc: Global,
     line: &str,
     bytes: &[u8],
-) -> Result<Answer, Fail> {
+) -> Result<Answer<ListProbe>, Fail> {
     answer_of(
         rt,
         alloc,
@@ -135,7 +155,7 @@ pub(crate) fn is_line(text: &[u8], line: &str) -> bool {
     }
 }
 
-impl Answer {
+impl<P> Answer<P> {
     /// Compares the status, the message's line and what was written.
     pub(crate) fn is(&self, status: u8, message: &str, written: &str) -> bool {
         self.status == status
@@ -147,17 +167,22 @@ impl Answer {
 /// The words of a command, its text, the status, the message's line without its newline, and what was written.
 pub(crate) type Case<'a> = (&'a str, &'a str, u8, &'a str, &'a str);
 
-/// Runs a command and compares what it came to. All was read, or nothing where the words are no command.
-pub(crate) fn compare(rt: &impl Abort, alloc: Global, case: Case<'_>) -> Result<(), Fail> {
+/// Runs a command and compares what it came to. All was read, or nothing where the words are no command or a drill.
+pub(crate) fn compare(rt: &impl Runtime, alloc: Global, case: Case<'_>) -> Result<(), Fail> {
     let (line, text, status, message, written) = case;
     let end = answer_on(rt, alloc, line, text.as_bytes())?;
     assert!(rt; end.is(status, message, written), "{line} {text}");
-    assert_eq!(rt; end.unread, if status == 2 { text.len() } else { 0 });
+    let reads_none = status == 2 || line.starts_with("drill");
+    assert_eq!(rt; end.unread, if reads_none { text.len() } else { 0 });
     Ok(())
 }
 
 /// Compares each of these cases.
-pub(crate) fn compare_all(rt: &impl Abort, alloc: Global, cases: &[Case<'_>]) -> Result<(), Fail> {
+pub(crate) fn compare_all(
+    rt: &impl Runtime,
+    alloc: Global,
+    cases: &[Case<'_>],
+) -> Result<(), Fail> {
     for case in cases {
         compare(rt, alloc, *case)?;
     }
@@ -166,7 +191,7 @@ pub(crate) fn compare_all(rt: &impl Abort, alloc: Global, cases: &[Case<'_>]) ->
 
 /// Compares each of these texts, and the message that refuses it whatever the words are.
 pub(crate) fn compare_refusals(
-    rt: &impl Abort,
+    rt: &impl Runtime,
     alloc: Global,
     lines: &[&str],
     status: u8,

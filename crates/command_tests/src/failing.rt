@@ -1,15 +1,19 @@
 //! Reads and writes that fail, and that move few bytes.
 
-use crate::command::{DIAMOND, Pace, WHOLE, answer_of};
+use crate::command::{DIAMOND, Pace, Runtime, WHOLE, answer_of};
 use graph_model::Text;
 use std::alloc::Global;
-use std::process::Abort;
 use std::test::Fail;
 
 // A text, how it is read and how the output is written, the status, the message's line, and what is written.
 type Paced<'a> = (&'a str, Pace, Pace, u8, &'a str, &'a str);
 
-fn compare_paced(rt: &impl Abort, alloc: Global, line: &str, case: Paced<'_>) -> Result<(), Fail> {
+fn compare_paced(
+    rt: &impl Runtime,
+    alloc: Global,
+    line: &str,
+    case: Paced<'_>,
+) -> Result<(), Fail> {
     let (text, read, write, status, message, written) = case;
     let bytes = Text::from_slice(alloc, text.as_bytes())?;
     let end = answer_of(rt, alloc, line, bytes, read, write)?;

@@ -214,6 +214,7 @@ fn runs_by_workers(rt: HostRuntime) -> Result<(), Fail> {
     let alloc = rt.alloc();
     let sums = tree_of_sums(alloc)?;
     for line in [
+        "run",
         "replay",
         "replay --workers 2",
         "replay --workers 2 --schedule 0,1",

@@ -8,15 +8,19 @@ mod checks;
 #[cfg(test)]
 mod command;
 #[cfg(test)]
+mod drills;
+#[cfg(test)]
 mod edges;
 #[cfg(test)]
 mod failing;
+#[cfg(test)]
+mod gates;
 #[cfg(test)]
 mod large;
 #[cfg(test)]
 mod memory;
 #[cfg(test)]
-mod notes;
+mod paths;
 #[cfg(test)]
 mod replays;
 #[cfg(test)]

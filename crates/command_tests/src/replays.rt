@@ -1,4 +1,4 @@
-//! Runs by virtual workers, under schedules and within turns.
+//! Runs by workers, in threads, and under schedules and within turns.
 
 use crate::command::{Case, DIAMOND, answer_on, compare, compare_all};
 use graph_model::{Key, Record};
@@ -36,9 +36,10 @@ written 4 life 1 block 3 version 1
 closed 4 life 1 word 0
 ";
 
-const CASES: [Case<'static>; 12] = [
+const CASES: [Case<'static>; 13] = [
     ("run --records", FIVE, 0, "", DETAIL),
     ("run --records --workers 64 --lives 1", FIVE, 0, "", DETAIL),
+    ("run --records --workers 1", FIVE, 0, "", DETAIL),
     ("replay --records", FIVE, 0, "", DETAIL),
     (
         "replay --workers 3 --schedule 0,1,2 --records",
@@ -116,6 +117,9 @@ fn refusals(rt: HostRuntime) -> Result<(), Fail> {
 #[test]
 fn notes_of_workers(rt: HostRuntime) -> Result<(), Fail> {
     for (line, workers) in [
+        ("run", 4),
+        ("run --workers 1", 1),
+        ("run --workers=64", 64),
         ("replay", 1),
         ("replay --workers 2 --schedule 0,1", 2),
         ("replay --workers 5 --schedule 0,4", 5),

@@ -102,7 +102,7 @@ fn refusals_of_graphs(rt: HostRuntime) -> Result<(), Fail> {
     compare_refusals(&rt, rt.alloc(), &["run", "check"], 6, &REFUSALS)
 }
 
-const COMMANDS: [Case<'static>; 6] = [
+const COMMANDS: [Case<'static>; 5] = [
     (
         "check",
         r#"{"version":1,"sink":4,"tasks":[{"key":1,"formula":"5"},{"key":2,"formula":"$0+1","inputs":[1]},{"key":3,"formula":"$0*2","inputs":[1]},{"key":4,"formula":"$0-$1","inputs":[2,3]},{"key":9,"formula":"1"}]}"#,
@@ -139,8 +139,6 @@ const COMMANDS: [Case<'static>; 6] = [
         "",
         "{\"faults\":[],\"sink\":1,\"tasks\":[],\"version\":1}\n",
     ),
-    // A plan of faults can't be run yet.
-    ("run", STRUCK, 5, "not supported yet", ""),
 ];
 
 #[test]
@@ -148,7 +146,7 @@ fn commands(rt: HostRuntime) -> Result<(), Fail> {
     compare_all(&rt, rt.alloc(), &COMMANDS)
 }
 
-const NO_COMMANDS: [&str; 44] = [
+const NO_COMMANDS: [&str; 46] = [
     "",
     "now",
     "run now",
@@ -184,11 +182,12 @@ const NO_COMMANDS: [&str; 44] = [
     "replay --lives 65536",
     "check --workers 1",
     "print --records",
-    // These are not served yet.
-    "paths",
-    "paths --workers 2",
-    "drill 7",
+    "paths --records",
+    "paths --workers 65",
     "drill",
+    "drill now",
+    "drill 4294967296",
+    "drill 7 8",
     "drill 7 --lives 2",
     "Run",
     "--",

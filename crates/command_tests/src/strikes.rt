@@ -1,4 +1,4 @@
-//! Runs by virtual workers whose tasks are struck.
+//! Runs by workers whose tasks are struck.
 
 use crate::command::{Case, answer_on, compare, compare_all};
 use graph_model::{Cause, Found, Key, Record};
@@ -17,7 +17,7 @@ const REUSED: &str =
 const DIAMOND: &str =
     r#"{"version":1,"sink":4,"tasks":[{"key":1,"formula":"5"},{"key":2,"formula":"$0+1","inputs":[1]},{"key":3,"formula":"$0*2","inputs":[1]},{"key":4,"formula":"$0-$1","inputs":[2,3]}],"faults":[{"task":1,"life":1,"point":"computed","target":"notify","word":0},{"task":4,"life":1,"point":"ready","target":"descriptor"},{"task":2,"life":1,"point":"notified","target":"block"}]}"#;
 
-const CASES: [Case<'static>; 13] = [
+const CASES: [Case<'static>; 18] = [
     (
         "replay --lives 1",
         STRUCK_SEVEN,
@@ -26,7 +26,7 @@ const CASES: [Case<'static>; 13] = [
         "",
     ),
     (
-        "run --records --lives 1",
+        "run --lives 1",
         STRUCK_SEVEN,
         7,
         "task 1 has no life after 1: descriptor",
@@ -34,7 +34,10 @@ const CASES: [Case<'static>; 13] = [
     ),
     ("replay --lives 2", STRUCK_SEVEN, 0, "", "value 7\n"),
     ("replay", STRUCK_SEVEN, 0, "", "value 7\n"),
-    ("run", STRUCK_SEVEN, 5, "not supported yet", ""),
+    ("run", STRUCK_SEVEN, 0, "", "value 7\n"),
+    ("run --lives 2", STRUCK_SEVEN, 0, "", "value 7\n"),
+    ("run", REUSED, 0, "", "value 12\n"),
+    ("run --workers 1", REUSED, 0, "", "value 12\n"),
     ("replay", REUSED, 0, "", "value 12\n"),
     ("replay --workers 1", REUSED, 0, "", "value 12\n"),
     ("replay", DIAMOND, 0, "", "value -4\n"),
@@ -60,7 +63,9 @@ const CASES: [Case<'static>; 13] = [
         "",
         "value -4\n",
     ),
-    ("run", DIAMOND, 5, "not supported yet", ""),
+    ("run", DIAMOND, 0, "", "value -4\n"),
+    ("run --workers 2", DIAMOND, 0, "", "value -4\n"),
+    ("run --workers 64", DIAMOND, 0, "", "value -4\n"),
 ];
 
 #[test]
@@ -94,7 +99,7 @@ fn count(records: &[Record], wanted: &Record) -> usize {
 
 #[test]
 fn one_life_is_replaced(rt: HostRuntime) -> Result<(), Fail> {
-    for line in ["replay --lives 2", "run --records --lives 2"] {
+    for line in ["replay --lives 2", "run --lives 2"] {
         let end = answer_on(&rt, rt.alloc(), line, STRUCK_SEVEN.as_bytes())?;
         assert_eq!(rt; end.status, 0);
         let records = end.records.as_slice();
@@ -198,6 +203,7 @@ fn long_pipeline(rt: HostRuntime) -> Result<(), Fail> {
     let alloc = rt.alloc();
     let text = pipeline(alloc, 200, 100)?;
     for line in [
+        "run",
         "replay",
         "replay --workers 2 --schedule 0,1",
         "replay --workers 4 --schedule 3,2,1,0",

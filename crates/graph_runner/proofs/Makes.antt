@@ -1,47 +1,59 @@
 -- From what a command makes on its way to what it makes.
-use Rattle.std.proofs.Common.{◌≡◌, ◌≢◌, ℕ, Bool, true, false, List, Result, refl, subst}
+use Rattle.std.proofs.Common.{◌≡◌, ◌≢◌, ℕ, Bool, true, false, List, Option, Result, refl, subst, sym}
 use Rattle.graph_model.specs.Notes.{Note}
 use Rattle.graph_model.specs.declared.record.Record.{Record}
 use Rattle.command_words.specs.Meaning.{Asked, asked, run, replay, paths, drill, check, print}
 use Rattle.command_words.specs.declared.command.Command.{Command}
 use Rattle.command_words.specs.declared.command.Command.TheVariants.{Run, Replay, Paths, Drill, Check, Print}
 use Rattle.graph_runner.specs.Commands.{Makes, Shows}
+use Rattle.graph_runner.specs.Files.{Runs}
 use Rattle.graph_runner.specs.Loading.{Input}
-use Rattle.graph_runner.specs.Replaying.{Replays}
-use Rattle.graph_runner.specs.Serving.{IsIdle, Runs}
-use Rattle.graph_runner.specs.Terms.{HasTerms, by_workers}
+use Rattle.graph_runner.specs.Running.{IsIdle}
+use Rattle.graph_runner.specs.Solving.{Solves}
+use Rattle.graph_runner.specs.Terms.{AreTerms, HasTerms, HasTurns, by_workers, is_turned}
 use Rattle.graph_runner.specs.declared.ending.Ending.{Ending}
+use Rattle.graph_runner.specs.declared.terms.Pace.{Pace}
+use Rattle.graph_runner.specs.declared.terms.Pace.TheVariants.{Threads, Turns}
 use Rattle.graph_runner.specs.declared.terms.Terms.{Terms}
 
-as_said : (input : Input) (lives life : ℕ) (detail told : Bool) (records : List Record) (news : List (List Note)) (made : Result (List ℕ) Ending) → lives ≡ life → detail ≡ told
-    → Replays input lives detail records news made → Replays input life told records news made
-as_said input lives life detail told records news made l d replays =
-    subst (λ n. Replays input n told records news made) l (subst (λ b. Replays input lives b records news made) d replays)
+as_said : (input : Input) (t : Terms) (turned : Bool) (workers lives : ℕ) (detail : Bool) (records : List Record) (news : List (List Note)) (made : Result (List ℕ) Ending)
+    → AreTerms t workers lives detail → is_turned t.pace ≡ turned → Runs input (is_turned t.pace) t.lives t.detail records news made → Runs input turned lives detail records news made
+as_said input t turned workers lives detail records news made are same runs =
+    subst (λ b. Runs input b lives detail records news made) same
+    (subst (λ n. Runs input (is_turned t.pace) n detail records news made) are.lives_are
+    (subst (λ b. Runs input (is_turned t.pace) t.lives b records news made) are.detail_is runs))
 
--- by workers on its terms
-pub on_terms : (command : Asked) (t : Terms) (input : Input) (records : List Record) (news : List (List Note)) (made : Result (List ℕ) Ending) → HasTerms command t
-    → Replays input t.lives t.detail records news made → Makes command input records news made
-on_terms (run workers lives true) t input records news made has replays = as_said input t.lives lives t.detail true records news made has.0.lives_are has.1 replays
-on_terms (run workers lives false) t input records news made has replays = absurd has
-on_terms (replay workers lives detail schedule turns) t input records news made has replays = as_said input t.lives lives t.detail detail records news made has.0.lives_are has.1 replays
-on_terms (paths workers lives) t input records news made has replays = absurd has
-on_terms (drill number workers) t input records news made has replays = absurd has
-on_terms check t input records news made has replays = absurd has
-on_terms print t input records news made has replays = absurd has
+pub threads_unturned : (pace : Pace) → pace ≡ Threads → is_turned pace ≡ false
+threads_unturned pace is = subst (λ p. is_turned p ≡ false) (sym is) refl
 
--- on one thread
-pub on_thread : (workers lives : ℕ) (detail : Bool) (input : Input) (records : List Record) (news : List (List Note)) (made : Result (List ℕ) Ending) → by_workers (run workers lives detail) ≡ false
-    → Runs input records news made → Makes (run workers lives detail) input records news made
-on_thread workers lives false input records news made none runs = runs
-on_thread workers lives true input records news made none runs = absurd (cc)
+turned : (pace : Pace) (schedule : List ℕ) (turns : Option ℕ) → HasTurns pace schedule turns → is_turned pace ≡ true
+turned Threads schedule turns has = absurd has
+turned (Turns named many) schedule turns has = refl
+
+-- a file's graph by workers on its terms
+pub on_terms : (command : Command) (t : Terms) (input : Input) (records : List Record) (news : List (List Note)) (made : Result (List ℕ) Ending) → HasTerms (asked command) t
+    → ((number workers : ℕ) → command ≢ Drill number workers) → ((workers lives : ℕ) → command ≢ Paths workers lives) → Runs input (is_turned t.pace) t.lives t.detail records news made
+    → Makes (asked command) input records news made
+on_terms (Run workers lives detail) t input records news made has no_drill no_paths runs =
+    as_said input t false workers lives detail records news made has.0 (threads_unturned t.pace has.1) runs
+on_terms (Replay workers lives detail schedule turns) t input records news made has no_drill no_paths runs =
+    as_said input t true workers lives detail records news made has.0 (turned t.pace schedule.items turns has.1) runs
+on_terms (Paths workers lives) t input records news made has no_drill no_paths runs = absurd (no_paths workers lives refl)
+on_terms (Drill number workers) t input records news made has no_drill no_paths runs = absurd (no_drill number workers refl)
+on_terms Check t input records news made has no_drill no_paths runs = absurd has
+on_terms Print t input records news made has no_drill no_paths runs = absurd has
+
+-- a matrix by workers on its terms
+pub on_paths : (workers lives : ℕ) (t : Terms) (input : Input) (records : List Record) (news : List (List Note)) (made : Result (List ℕ) Ending) → HasTerms (paths workers lives) t
+    → Solves input t.lives records news made → Makes (paths workers lives) input records news made
+on_paths workers lives t input records news made has solves = subst (λ n. Solves input n records news made) has.0.lives_are solves
 
 -- without a run
-pub without_run : (command : Command) (input : Input) (records : List Record) (news : List (List Note)) (made : Result (List ℕ) Ending)
-    → ((workers lives : ℕ) (detail : Bool) → command ≢ Run workers lives detail) → by_workers (asked command) ≡ false → IsIdle records news → Shows (asked command) input made
-    → Makes (asked command) input records news made
-without_run (Run workers lives detail) input records news made no_run none idle shows = absurd (no_run workers lives detail refl)
-without_run (Replay workers lives detail schedule turns) input records news made no_run none idle shows = absurd (cc)
-without_run (Paths workers lives) input records news made no_run none idle shows = (shows, idle)
-without_run (Drill number workers) input records news made no_run none idle shows = (shows, idle)
-without_run Check input records news made no_run none idle shows = (shows, idle)
-without_run Print input records news made no_run none idle shows = (shows, idle)
+pub without_run : (command : Asked) (input : Input) (records : List Record) (news : List (List Note)) (made : Result (List ℕ) Ending)
+    → by_workers command ≡ false → IsIdle records news → Shows command input made → Makes command input records news made
+without_run (run workers lives detail) input records news made none idle shows = absurd (cc)
+without_run (replay workers lives detail schedule turns) input records news made none idle shows = absurd (cc)
+without_run (paths workers lives) input records news made none idle shows = absurd (cc)
+without_run (drill number workers) input records news made none idle shows = absurd (cc)
+without_run check input records news made none idle shows = (shows, idle)
+without_run print input records news made none idle shows = (shows, idle)

@@ -10,7 +10,7 @@ use Rattle.graph_runner.specs.Endings.{audit_ending}
 use Rattle.graph_runner.specs.Loading.{Input, IsLoaded, FailsToLoad}
 use Rattle.graph_runner.specs.Opening.{FailsToAccept}
 use Rattle.graph_runner.specs.declared.ending.Ending.{Ending}
-use Rattle.graph_runner.specs.declared.ending.Ending.TheVariants.{Done, Usage, ReadFault, WriteFault, Text, Audit, NotYet, LivesSpent, ScheduleShort, OutOfMemory, TooLong}
+use Rattle.graph_runner.specs.declared.ending.Ending.TheVariants.{Done, Usage, ReadFault, WriteFault, Text, Audit, Matrix, LivesSpent, ScheduleShort, OutOfMemory, TooLong}
 
 pub refused : (raw : RawGraph) (fault : AuditFault) → IsFault raw.tasks.items raw.sink.0 fault → Accepts raw (Err (audit_ending fault))
 refused raw audit.OutOfMemory stands = tt
@@ -36,7 +36,7 @@ unloaded input Done fails = absurd fails
 unloaded input Usage fails = absurd fails
 unloaded input WriteFault fails = absurd fails
 unloaded input (Audit fault) fails = absurd fails
-unloaded input NotYet fails = absurd fails
+unloaded input (Matrix fault) fails = absurd fails
 unloaded input (LivesSpent k l c) fails = absurd fails
 unloaded input (ScheduleShort pending) fails = absurd fails
 
@@ -48,7 +48,7 @@ unaccepted input raw plan Usage loaded accepts = absurd accepts
 unaccepted input raw plan ReadFault loaded accepts = absurd accepts
 unaccepted input raw plan WriteFault loaded accepts = absurd accepts
 unaccepted input raw plan (Text fault) loaded accepts = absurd accepts
-unaccepted input raw plan NotYet loaded accepts = absurd accepts
+unaccepted input raw plan (Matrix fault) loaded accepts = absurd accepts
 unaccepted input raw plan (LivesSpent k l c) loaded accepts = absurd accepts
 unaccepted input raw plan (ScheduleShort pending) loaded accepts = absurd accepts
 unaccepted input raw plan TooLong loaded accepts = absurd accepts

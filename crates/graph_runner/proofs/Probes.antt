@@ -1,10 +1,13 @@
 -- What probes are told.
-use Rattle.std.proofs.Common.{◌≡◌, ◌∙◌, ◌<◌, List, [], ◌∷◌, ◌++◌, length, get_or, Option, Some, None, refl, sym, subst, ap, arith, append-nil, append_assoc}
-use Rattle.std.specs.List.{insert, remove}
+use Rattle.std.proofs.Common.{◌≡◌, suc, ℤ, List, [], ◌∷◌, ◌++◌, map, Option, Some, None, Result, Ok, Err, refl, sym, subst, ap, arith, append-nil}
 use Rattle.std.specs.Option.{option_map}
 use Rattle.graph_model.specs.Notes.{Note}
-use Rattle.worker_pool.specs.Calling.{all_calls}
-use Rattle.graph_runner.specs.Notes.{Told}
+use Rattle.graph_model.specs.declared.record.Record.{Record}
+use Rattle.worker_pool.specs.Calling.{AddCalls, all_calls}
+use Rattle.worker_pool.specs.Ends.{HasAllRecords, RunCalls}
+use Rattle.worker_pool.specs.declared.end.Why.{Why}
+use Rattle.worker_pool.specs.declared.end.Why.TheVariants as why
+use Rattle.graph_runner.specs.Notes.{AreRecorded, Told}
 
 known_same : (known : Option (List Note)) → known ≡ option_map (λ ns. ns ++ []) known
 known_same None = refl
@@ -23,22 +26,6 @@ pub calls-no_news : {P : Type 0} (ps : List P) → all_calls (no_news ps) ≡ []
 calls-no_news [] = refl
 calls-no_news (p ∷ ps) = calls-no_news ps
 
--- the first probe is told these notes
-abbrev pub first_news : {P : Type 0} → List Note → List P → List (List Note)
-first_news new [] = []
-first_news new (p ∷ ps) = new ∷ no_news ps
-
-pub told_first : {P : Type 0} (notes : P → Option (List Note)) (ps rs : List P) (p q : P) (new : List Note) → 0 < length ps
-    → p ≡ get_or ps 0 p → rs ≡ insert (remove ps 0) 0 q → notes q ≡ option_map (λ ns. ns ++ new) (notes p) → Told notes ps rs (first_news new ps)
-told_first notes [] rs p q new some is put told = absurd (omega arith)
-told_first {P} notes (r ∷ ps) rs p q new some is put told =
-    let same : rs ≡ q ∷ ps = put in
-    subst (λ (xs : List P). Told notes (r ∷ ps) xs (new ∷ no_news ps)) (sym same) (told ∙ ap (λ x. option_map (λ ns. ns ++ new) (notes x)) is, told_none notes ps)
-
-pub calls-first_news : {P : Type 0} (new : List Note) (ps : List P) → 0 < length ps → all_calls (first_news new ps) ≡ new
-calls-first_news new [] some = absurd (omega arith)
-calls-first_news new (p ∷ ps) some = ap (λ ns. new ++ ns) (calls-no_news ps) ∙ append-nil new
-
 -- some probes are told these notes, and those behind them nothing
 pub told_front : {P : Type 0} (notes : P → Option (List Note)) (ps qs rest : List P) (news : List (List Note)) → Told notes ps qs news
     → Told notes (ps ++ rest) (qs ++ rest) (news ++ no_news rest)
@@ -53,9 +40,39 @@ pub calls-front : {P : Type 0} (rest : List P) (news : List (List Note)) → all
 calls-front rest [] = calls-no_news rest
 calls-front rest (new ∷ news) = ap (λ ns. new ++ ns) (calls-front rest news)
 
--- the same of all probes, before and after a run with the first of them
-pub told_whole : {P : Type 0} (notes : P → Option (List Note)) (ps qs rest before after : List P) (news : List (List Note)) → ps ++ rest ≡ before → after ≡ qs ++ rest
-    → Told notes ps qs news → Told notes before after (news ++ no_news rest)
-told_whole {P} notes ps qs rest before after news was is told =
-    subst (λ (xs : List P). Told notes xs after (news ++ no_news rest)) was
-    (subst (λ (xs : List P). Told notes (ps ++ rest) xs (news ++ no_news rest)) (sym is) (told_front notes ps qs rest news told))
+-- calls that are added are notes that are told
+pub told_by : (before now : List (Option (List Note))) (news : List (List Note)) → AddCalls before now news → Told (λ n. n) before now news
+told_by [] [] [] adds = tt
+told_by [] [] (new ∷ news) adds = absurd (omega (arith, adds.news_count))
+told_by [] (k ∷ now) news adds = absurd (omega (arith, adds.same_count))
+told_by (b ∷ before) [] news adds = absurd (omega (arith, adds.same_count))
+told_by (b ∷ before) (k ∷ now) [] adds = absurd (omega (arith, adds.news_count))
+told_by (b ∷ before) (k ∷ now) (new ∷ news) adds = (
+  adds.each 0 (omega arith),
+  told_by before now news (record { same_count = omega (arith, adds.same_count); news_count = omega (arith, adds.news_count); each = λ i inside. adds.each (suc i) (omega arith) }),
+)
+
+-- what stands in lists of notes is what the probes were told that have them
+told_of : {P : Type 0} (notes : P → Option (List Note)) (ps qs : List P) (news : List (List Note)) → Told (λ n. n) (map notes ps) (map notes qs) news → Told notes ps qs news
+told_of notes [] [] [] told = tt
+told_of notes [] [] (new ∷ news) told = absurd told
+told_of notes [] (q ∷ qs) news told = absurd told
+told_of notes (p ∷ ps) [] news told = absurd told
+told_of notes (p ∷ ps) (q ∷ qs) [] told = absurd told
+told_of notes (p ∷ ps) (q ∷ qs) (new ∷ news) told = (told.0, told_of notes ps qs news told.1)
+
+-- all probes, before and after a run of kernels with the first of them
+pub told_whole : {P : Type 0} (notes : P → Option (List Note)) (before after rest : List (Option (List Note))) (ps qs : List P) (news : List (List Note)) → before ++ rest ≡ map notes ps
+    → map notes qs ≡ after ++ rest → AddCalls before after news → Told notes ps qs (news ++ no_news rest)
+told_whole notes before after rest ps qs news was is adds =
+    told_of notes ps qs (news ++ no_news rest)
+    (subst (λ xs. Told (λ n. n) xs (map notes qs) (news ++ no_news rest)) was
+    (subst (λ xs. Told (λ n. n) (before ++ rest) xs (news ++ no_news rest)) (sym is) (told_front (λ n. n) before after rest news (told_by before after news adds))))
+
+-- the calls of kernels, and with no record missing just what is recorded
+pub run_told : (before now : List (Option (List Note))) (made : Result (List ℤ) Why) (records : List Record) → RunCalls before now made records
+    → (news : List (List Note)) × AddCalls before now news × (HasAllRecords made → AreRecorded news records)
+run_told before now (Ok value) records calls = (calls.news, calls.calls, λ all. calls.as_often)
+run_told before now (Err why.OutOfMemory) records calls = (calls.news, calls.calls, λ none. absurd none)
+run_told before now (Err (why.LivesSpent k l c)) records calls = (calls.news, calls.calls, λ all. calls.as_often)
+run_told before now (Err (why.ScheduleShort pending)) records calls = (calls.news, calls.calls, λ all. calls.as_often)

@@ -1,21 +1,24 @@
 -- Kernels with the first of some probes.
-use Rattle.std.proofs.Common.{◌≡◌, ◌∙◌, ℕ, ◌+◌, ◌<◌, List, [], ◌∷◌, ◌++◌, length, map, get_or, sym, ap, arith, append_assoc}
-use Rattle.std.specs.List.{remove}
+use Rattle.std.proofs.Common.{◌≡◌, ◌∙◌, ◌<◌, List, [], ◌∷◌, ◌++◌, length, map, get_or, Option, sym, ap, arith, append_assoc}
+use Rattle.std.specs.List.{insert, remove}
 use Rattle.std.proofs.lemmas.List.{map-append}
-use Rattle.std.proofs.lemmas.List.Elements.{All-push}
-use Rattle.acyclic_audit.specs.declared.graph.FileGraph.{FileGraph}
-use Rattle.graph_runner.specs.Workers.{OnGraph, probes_in}
-use Rattle.graph_runner.specs.declared.kernel.FormulaKernel.{FormulaKernel}
-
-pub on_more : {P : Type 0} (g : FileGraph) (kernels : List (FormulaKernel P)) (kernel : FormulaKernel P) → OnGraph g kernels → kernel.graph.now ≡ g → OnGraph g (kernels ++ kernel ∷ [])
-on_more {P} g kernels kernel on here = All-push (λ (k : FormulaKernel P). k.graph.now ≡ g) kernels kernel on here
+use Rattle.graph_model.specs.Notes.{Note}
 
 -- one kernel more has the first of the probes that were left
-pub one_taken : {P : Type 0} (kernels : List (FormulaKernel P)) (kernel : FormulaKernel P) (probes all : List P) (probe : P) → 0 < length probes → probe ≡ get_or probes 0 probe
-    → kernel.probe ≡ probe → probes_in kernels ++ probes ≡ all → probes_in (kernels ++ kernel ∷ []) ++ remove probes 0 ≡ all
-one_taken kernels kernel [] all probe some is has front = absurd (omega arith)
-one_taken {P} kernels kernel (p ∷ probes) all probe some is has front =
-    ap (λ (ps : List P). ps ++ probes) (map-append (λ (k : FormulaKernel P). k.probe) kernels (kernel ∷ []))
-    ∙ append_assoc (probes_in kernels) (kernel.probe ∷ []) probes
-    ∙ ap (λ (x : P). probes_in kernels ++ x ∷ probes) (has ∙ is)
+pub one_taken : {K P : Type 0} (calls : K → Option (List Note)) (notes : P → Option (List Note)) (kernels : List K) (kernel : K) (probes : List P) (all : List (Option (List Note))) (probe : P)
+    → 0 < length probes → probe ≡ get_or probes 0 probe → calls kernel ≡ notes probe → map calls kernels ++ map notes probes ≡ all
+    → map calls (kernels ++ kernel ∷ []) ++ map notes (remove probes 0) ≡ all
+one_taken calls notes kernels kernel [] all probe some is has front = absurd (omega arith)
+one_taken calls notes kernels kernel (p ∷ probes) all probe some is has front =
+    ap (λ ns. ns ++ map notes probes) (map-append calls kernels (kernel ∷ []))
+    ∙ append_assoc (map calls kernels) (calls kernel ∷ []) (map notes probes)
+    ∙ ap (λ n. map calls kernels ++ n ∷ map notes probes) (has ∙ ap notes is)
     ∙ front
+
+-- the probe of the last kernel stands before the others
+pub one_given : {K P : Type 0} (calls : K → Option (List Note)) (notes : P → Option (List Note)) (kernels before : List K) (kernel : K) (probes : List P) (probe : P)
+    → before ≡ kernels ++ kernel ∷ [] → notes probe ≡ calls kernel → map calls kernels ++ map notes (insert probes 0 probe) ≡ map calls before ++ map notes probes
+one_given calls notes kernels before kernel probes probe is has =
+    ap (λ n. map calls kernels ++ n ∷ map notes probes) has
+    ∙ sym (append_assoc (map calls kernels) (calls kernel ∷ []) (map notes probes))
+    ∙ ap (λ ns. ns ++ map notes probes) (sym (map-append calls kernels (kernel ∷ [])) ∙ ap (map calls) (sym is))

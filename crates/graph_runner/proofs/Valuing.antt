@@ -10,11 +10,11 @@ use Rattle.raw_graph.specs.declared.raw.RawTask.{RawTask}
 use Rattle.audit_checks.specs.Tasks.{key_of, keys_of, places_of}
 use Rattle.acyclic_audit.specs.Views.{graph, tree_at}
 use Rattle.acyclic_audit.specs.declared.graph.FileGraph.{FileGraph}
-use Rattle.serial_run.specs.Computing.{Fits}
+use Rattle.worker_pool.specs.Calling.{CanRun}
 use Rattle.graph_model.proofs.Serials.{serial_step}
 use Rattle.graph_runner.specs.Accepting.{IsAcceptedAs}
 use Rattle.graph_runner.specs.Formulas.{cells_of, formula_outcome, FitsFormula}
-use Rattle.graph_runner.specs.Serving.{IsValuation}
+use Rattle.graph_runner.specs.Files.{IsValuation}
 
 pub map_long : {X Y : Type 0} (f : X → Y) (xs : List X) → length (map f xs) ≡ length xs
 map_long f [] = refl
@@ -31,9 +31,9 @@ single_serials g [] = All-nil (λ (cells : List ℤ). length cells ≡ 1)
 single_serials g (k ∷ ks) =
     All-cons (λ cells. length cells ≡ 1) (serial (graph g) (formula_outcome g) k) (map (serial (graph g) (formula_outcome g)) ks) refl (single_serials g ks)
 
--- the serial inputs of each task fit the kernel, and each task has one cell
-pub formula_fits : (g : FileGraph) → Fits (graph g) (formula_outcome g) (FitsFormula g)
-formula_fits g = record {
+-- the serial inputs of each task fit the kernel, and each task has one cell, as its block has
+pub can_be : (g : FileGraph) → CanRun (graph g) (formula_outcome g) (FitsFormula g)
+can_be g = record {
   inputs = λ k task. record {
     task = task;
     count = (
@@ -43,7 +43,7 @@ formula_fits g = record {
         );
     single = single_serials g (inputs_of (graph g) k);
   };
-  cell = λ k task. refl;
+  cells = λ k task. refl;
 }
 
 -- the one cell of a task

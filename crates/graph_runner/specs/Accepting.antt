@@ -10,7 +10,7 @@ use Rattle.acyclic_audit.specs.Meaning.{IsGraphOf}
 use Rattle.acyclic_audit.specs.Views.{graph, tree_at}
 use Rattle.acyclic_audit.specs.declared.graph.FileGraph.{FileGraph}
 use Rattle.graph_runner.specs.declared.ending.Ending.{Ending}
-use Rattle.graph_runner.specs.declared.ending.Ending.TheVariants.{Done, Usage, ReadFault, WriteFault, Text, Audit, NotYet, LivesSpent, ScheduleShort, OutOfMemory, TooLong}
+use Rattle.graph_runner.specs.declared.ending.Ending.TheVariants.{Done, Usage, ReadFault, WriteFault, Text, Audit, Matrix, LivesSpent, ScheduleShort, OutOfMemory, TooLong}
 
 -- the graph is accepted, and this is it, with its formulas
 pub record IsAcceptedAs (raw : RawGraph) (g : FileGraph) : Type 0 where
@@ -27,7 +27,7 @@ Accepts raw (Err Usage) = ⊥
 Accepts raw (Err ReadFault) = ⊥
 Accepts raw (Err WriteFault) = ⊥
 Accepts raw (Err (Text fault)) = ⊥
-Accepts raw (Err NotYet) = ⊥
+Accepts raw (Err (Matrix fault)) = ⊥
 Accepts raw (Err (LivesSpent k l c)) = ⊥
 Accepts raw (Err (ScheduleShort pending)) = ⊥
 Accepts raw (Err TooLong) = ⊥

@@ -4,8 +4,11 @@ use Rattle.graph_model.specs.Notes.{Note}
 use Rattle.graph_model.specs.declared.record.Record.{Record}
 use Rattle.command_words.specs.Meaning.{Asked, run, replay, paths, drill, check, print, StandsFor, StandsForNone}
 use Rattle.graph_runner.specs.Loading.{Input}
-use Rattle.graph_runner.specs.Replaying.{Replays}
-use Rattle.graph_runner.specs.Serving.{Checks, Prints, Runs, IsIdle}
+use Rattle.graph_runner.specs.Drilling.{Drills}
+use Rattle.graph_runner.specs.Files.{Runs}
+use Rattle.graph_runner.specs.Running.{IsIdle}
+use Rattle.graph_runner.specs.Serving.{Checks, Prints}
+use Rattle.graph_runner.specs.Solving.{Solves}
 use Rattle.graph_runner.specs.Writing.{Output, Finishes}
 use Rattle.graph_runner.specs.declared.ending.Ending.{Ending}
 use Rattle.graph_runner.specs.declared.ending.Ending.TheVariants as ending
@@ -29,13 +32,12 @@ Shows (replay workers lives detail schedule turns) input made = IsMisuse input m
 Shows (paths workers lives) input made = IsMisuse input made
 Shows (drill number workers) input made = IsMisuse input made
 
--- What a command makes. `run` is evaluated on one thread, and by one worker where its records are printed; `paths` and `drill` are not served yet.
+-- What a command makes of its words and the source. `run` and `paths` have a thread for each worker, and so has `drill`, which reads nothing; `replay` has turns, which may be over.
 abbrev pub Makes : Asked → Input → List Record → List (List Note) → Result (List ℕ) Ending → Type 0
-Makes (run workers lives false) input records news made = Runs input records news made
-Makes (run workers lives true) input records news made = Replays input lives true records news made
-Makes (replay workers lives detail schedule turns) input records news made = Replays input lives detail records news made
-Makes (paths workers lives) input records news made = IsMisuse input made × IsIdle records news
-Makes (drill number workers) input records news made = IsMisuse input made × IsIdle records news
+Makes (run workers lives detail) input records news made = Runs input false lives detail records news made
+Makes (replay workers lives detail schedule turns) input records news made = Runs input true lives detail records news made
+Makes (paths workers lives) input records news made = Solves input lives records news made
+Makes (drill number workers) input records news made = IsUnread input × Drills number records news made
 Makes check input records news made = Checks input made × IsIdle records news
 Makes print input records news made = Prints input made × IsIdle records news
 

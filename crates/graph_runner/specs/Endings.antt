@@ -6,11 +6,13 @@ use Rattle.audit_checks.specs.declared.fault.AuditFault.{AuditFault}
 use Rattle.audit_checks.specs.declared.fault.AuditFault.TheVariants as audit
 use Rattle.worker_pool.specs.declared.end.Why.{Why}
 use Rattle.worker_pool.specs.declared.end.Why.TheVariants as why
-use Rattle.graph_runner.specs.Messages.{shown_fault, audit_text, round_text, spent_text}
+use Rattle.apsp_graph.specs.declared.fault.MatrixFault.{MatrixFault}
+use Rattle.apsp_graph.specs.declared.fault.MatrixFault.TheVariants as matrix
+use Rattle.graph_runner.specs.Messages.{shown_fault, audit_text, matrix_text, round_text, spent_text}
 use Rattle.graph_runner.specs.declared.ending.Ending.{Ending}
-use Rattle.graph_runner.specs.declared.ending.Ending.TheVariants.{Done, Usage, ReadFault, WriteFault, Text, Audit, NotYet, LivesSpent, ScheduleShort, OutOfMemory, TooLong}
+use Rattle.graph_runner.specs.declared.ending.Ending.TheVariants.{Done, Usage, ReadFault, WriteFault, Text, Audit, Matrix, LivesSpent, ScheduleShort, OutOfMemory, TooLong}
 
--- what a fault of the text comes to, and one of the graph: want of memory is the same wherever it is met
+-- what a fault of the text comes to, one of the graph, and one of a matrix: want of memory is the same wherever it is met
 abbrev pub text_ending : TextFault → Ending
 text_ending text.OutOfMemory = OutOfMemory
 text_ending text.NotJson = Text text.NotJson
@@ -34,6 +36,14 @@ audit_ending (audit.VersionOrder b v) = Audit (audit.VersionOrder b v)
 audit_ending (audit.ReaderNotBefore r w) = Audit (audit.ReaderNotBefore r w)
 audit_ending (audit.InputCount t i) = Audit (audit.InputCount t i)
 
+abbrev pub matrix_ending : MatrixFault → Ending
+matrix_ending matrix.OutOfMemory = OutOfMemory
+matrix_ending matrix.Head = Matrix matrix.Head
+matrix_ending matrix.Size = Matrix matrix.Size
+matrix_ending (matrix.Line line) = Matrix (matrix.Line line)
+matrix_ending (matrix.Weight line) = Matrix (matrix.Weight line)
+matrix_ending (matrix.Fault line) = Matrix (matrix.Fault line)
+
 -- what the end of a run without the value comes to
 abbrev pub run_ending : Why → Ending
 run_ending why.OutOfMemory = OutOfMemory
@@ -48,7 +58,7 @@ status_of ReadFault = 3
 status_of WriteFault = 4
 status_of (Text fault) = 5
 status_of (Audit fault) = 6
-status_of NotYet = 5
+status_of (Matrix fault) = 5
 status_of (LivesSpent k l c) = 7
 status_of (ScheduleShort pending) = 10
 status_of OutOfMemory = 8
@@ -66,7 +76,7 @@ message_of ReadFault = line (codes "input could not be read")
 message_of WriteFault = line (codes "output could not be written")
 message_of (Text fault) = line (shown_fault fault)
 message_of (Audit fault) = line (audit_text fault)
-message_of NotYet = line (codes "not supported yet")
+message_of (Matrix fault) = line (matrix_text fault)
 message_of (LivesSpent k l c) = line (spent_text k l c)
 message_of (ScheduleShort pending) = line (round_text (codes "schedule ended with ") pending (codes " pending"))
 message_of OutOfMemory = []

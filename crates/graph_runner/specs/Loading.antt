@@ -10,7 +10,7 @@ use Rattle.graph_reader.specs.Answers.{StandsFor, ReadsGraph}
 use Rattle.graph_reader.specs.declared.fault.TextFault.{TextFault}
 use Rattle.graph_reader.specs.declared.fault.TextFault.TheVariants as text
 use Rattle.graph_runner.specs.declared.ending.Ending.{Ending}
-use Rattle.graph_runner.specs.declared.ending.Ending.TheVariants.{Done, Usage, ReadFault, WriteFault, Text, Audit, NotYet, LivesSpent, ScheduleShort, OutOfMemory, TooLong}
+use Rattle.graph_runner.specs.declared.ending.Ending.TheVariants.{Done, Usage, ReadFault, WriteFault, Text, Audit, Matrix, LivesSpent, ScheduleShort, OutOfMemory, TooLong}
 
 -- the source before and after a call
 pub record Input : Type 0 where
@@ -55,17 +55,35 @@ pub record IsFlooded (input : Input) : Type 0 where
   pub took : Took input.left input.left_after bytes
   pub many : input_limit < length bytes
 
+-- why there are no bytes
+abbrev pub FailsToTake : Input → Ending → Type 0
+FailsToTake input ReadFault = IsCutOff input
+FailsToTake input TooLong = IsFlooded input
+FailsToTake input OutOfMemory = Unit {0}
+FailsToTake input Done = ⊥
+FailsToTake input Usage = ⊥
+FailsToTake input WriteFault = ⊥
+FailsToTake input (Text fault) = ⊥
+FailsToTake input (Audit fault) = ⊥
+FailsToTake input (Matrix fault) = ⊥
+FailsToTake input (LivesSpent k l c) = ⊥
+FailsToTake input (ScheduleShort pending) = ⊥
+
+abbrev pub Takes : Input → Result (List ℕ) Ending → Type 0
+Takes input (Ok bytes) = Gave input bytes
+Takes input (Err ending) = FailsToTake input ending
+
 -- why there is no graph and plan
 abbrev pub FailsToLoad : Input → Ending → Type 0
-FailsToLoad input ReadFault = IsCutOff input
-FailsToLoad input TooLong = IsFlooded input
+FailsToLoad input ReadFault = FailsToTake input ReadFault
+FailsToLoad input TooLong = FailsToTake input TooLong
 FailsToLoad input (Text fault) = IsNoFile input fault
 FailsToLoad input OutOfMemory = Unit {0}
 FailsToLoad input Done = ⊥
 FailsToLoad input Usage = ⊥
 FailsToLoad input WriteFault = ⊥
 FailsToLoad input (Audit fault) = ⊥
-FailsToLoad input NotYet = ⊥
+FailsToLoad input (Matrix fault) = ⊥
 FailsToLoad input (LivesSpent k l c) = ⊥
 FailsToLoad input (ScheduleShort pending) = ⊥
 

@@ -1,4 +1,4 @@
--- The words that tell faults of texts and graphs.
+-- The words that tell faults of texts, graphs and matrices.
 use Rattle.std.specs.Prelude.{ℕ, List, [], ◌++◌, codes}
 use Rattle.text_lines.specs.Fields.{field_text}
 use Rattle.graph_model.specs.declared.key.Key.{Key}
@@ -10,6 +10,8 @@ use Rattle.graph_reader.specs.declared.fault.TextFault.{TextFault}
 use Rattle.graph_reader.specs.declared.fault.TextFault.TheVariants as text
 use Rattle.audit_checks.specs.declared.fault.AuditFault.{AuditFault}
 use Rattle.audit_checks.specs.declared.fault.AuditFault.TheVariants as audit
+use Rattle.apsp_graph.specs.declared.fault.MatrixFault.{MatrixFault}
+use Rattle.apsp_graph.specs.declared.fault.MatrixFault.TheVariants as matrix
 
 -- what is wrong with a formula, with the byte position where there is one
 abbrev pub formula_text : FormulaFault → List ℕ
@@ -57,6 +59,15 @@ audit_text (audit.VersionOrder b v) = block_text b (codes ": the writer of versi
 audit_text (audit.ReaderNotBefore r w) = task_text r.0 (codes " reads what task ") w.0 (codes " overwrites and is not before it")
 audit_text (audit.InputCount t i) = task_text t.0 (codes " has no input ") i []
 audit_text audit.OutOfMemory = codes "out of memory"
+
+-- why a text is no matrix
+abbrev pub matrix_text : MatrixFault → List ℕ
+matrix_text matrix.Head = codes "bad first line"
+matrix_text matrix.Size = codes "bad size"
+matrix_text (matrix.Line line) = field_text (codes "bad line ") line
+matrix_text (matrix.Weight line) = field_text (codes "weight too large in line ") line
+matrix_text (matrix.Fault line) = field_text (codes "bad fault in line ") line
+matrix_text matrix.OutOfMemory = codes "out of memory"
 
 -- which life of a task was the last, and what ended it
 abbrev pub spent_text : Key → ℕ → Cause → List ℕ

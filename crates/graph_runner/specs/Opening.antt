@@ -9,7 +9,7 @@ use Rattle.acyclic_audit.specs.declared.graph.FileGraph.{FileGraph}
 use Rattle.graph_runner.specs.Accepting.{IsAcceptedAs}
 use Rattle.graph_runner.specs.Loading.{Input, IsLoaded, FailsToLoad}
 use Rattle.graph_runner.specs.declared.ending.Ending.{Ending}
-use Rattle.graph_runner.specs.declared.ending.Ending.TheVariants.{Done, Usage, ReadFault, WriteFault, Text, Audit, NotYet, LivesSpent, ScheduleShort, OutOfMemory, TooLong}
+use Rattle.graph_runner.specs.declared.ending.Ending.TheVariants.{Done, Usage, ReadFault, WriteFault, Text, Audit, Matrix, LivesSpent, ScheduleShort, OutOfMemory, TooLong}
 
 -- the source's graph is not accepted, and this is the first refusal
 pub record IsRefused (input : Input) (fault : AuditFault) : Type 0 where
@@ -29,7 +29,7 @@ FailsToAccept input OutOfMemory = Unit {0}
 FailsToAccept input Done = ⊥
 FailsToAccept input Usage = ⊥
 FailsToAccept input WriteFault = ⊥
-FailsToAccept input NotYet = ⊥
+FailsToAccept input (Matrix fault) = ⊥
 FailsToAccept input (LivesSpent k l c) = ⊥
 FailsToAccept input (ScheduleShort pending) = ⊥
 

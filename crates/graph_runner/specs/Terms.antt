@@ -3,47 +3,53 @@ use Rattle.std.specs.Prelude.{◌≡◌, ◌≢◌, ℕ, ◌+◌, ◌*◌, ◌-�
 use Rattle.graph_model.specs.Graph.{Graph}
 use Rattle.command_words.specs.Meaning.{Asked, run, replay, paths, drill, check, print}
 use Rattle.graph_runner.specs.declared.terms.Terms.{Terms}
-use Rattle.graph_runner.specs.declared.terms.Turns.{Turns}
-use Rattle.graph_runner.specs.declared.terms.Turns.TheVariants.{Given, Ample, Calm}
+use Rattle.graph_runner.specs.declared.terms.Pace.{Pace}
+use Rattle.graph_runner.specs.declared.terms.Pace.TheVariants.{Threads, Turns}
 
--- the turns that `replay` is given, or as many as the schedule, the plan and the graph decide
-abbrev pub turns_given : Option ℕ → Turns
-turns_given (Some turns) = Given turns
-turns_given None = Ample
-
--- whether a command is run by workers; `run` is where its records are printed
+-- whether a command is run by workers
 abbrev pub by_workers : Asked → Bool
-by_workers (run workers lives detail) = detail
+by_workers (run workers lives detail) = true
 by_workers (replay workers lives detail schedule turns) = true
-by_workers (paths workers lives) = false
-by_workers (drill number workers) = false
+by_workers (paths workers lives) = true
+by_workers (drill number workers) = true
 by_workers check = false
 by_workers print = false
 
+-- whether there are turns, which may be over
+abbrev pub is_turned : Pace → Bool
+is_turned Threads = false
+is_turned (Turns schedule turns) = true
+
+-- the workers take turns: this schedule, and so many turns, or as many as schedule, plan and graph decide
+abbrev pub HasTurns : Pace → List ℕ → Option ℕ → Type 0
+HasTurns Threads schedule turns = ⊥
+HasTurns (Turns workers many) schedule turns = (workers.now ≡ schedule) × (many ≡ turns)
+
 -- the terms say just this
-pub record AreTerms (t : Terms) (workers lives : ℕ) (schedule : List ℕ) (turns : Turns) : Type 0 where
+pub record AreTerms (t : Terms) (workers lives : ℕ) (detail : Bool) : Type 0 where
   pub workers_are : t.workers ≡ workers
   pub lives_are : t.lives ≡ lives
-  pub schedule_is : t.schedule.now ≡ schedule
-  pub turns_are : t.turns ≡ turns
+  pub detail_is : t.detail ≡ detail
 
--- The terms of a command that is run by workers: what the words of `replay` say; for `run`, where its records are printed, one worker.
+-- The terms of a command that is run by workers: what its words say. All but `replay` have a thread for each worker, and `drill` has no other greatest life than the default.
 abbrev pub HasTerms : Asked → Terms → Type 0
-HasTerms (run workers lives true) t = AreTerms t 1 lives (0 ∷ []) Calm × (t.detail ≡ true)
-HasTerms (run workers lives false) t = ⊥
-HasTerms (replay workers lives detail schedule turns) t = AreTerms t workers lives schedule (turns_given turns) × (t.detail ≡ detail)
-HasTerms (paths workers lives) t = ⊥
-HasTerms (drill number workers) t = ⊥
+HasTerms (run workers lives detail) t = AreTerms t workers lives detail × (t.pace ≡ Threads)
+HasTerms (replay workers lives detail schedule turns) t = AreTerms t workers lives detail × HasTurns t.pace schedule turns
+HasTerms (paths workers lives) t = AreTerms t workers lives false × (t.pace ≡ Threads)
+HasTerms (drill number workers) t = AreTerms t workers 65535 false × (t.pace ≡ Threads)
 HasTerms check t = ⊥
 HasTerms print t = ⊥
 
--- 1 to 64 workers, a greatest life of 1 to 65,535, and a schedule of 1 to 4,096 turns that names no other worker
+-- a schedule of 1 to 4,096 turns that names workers alone
+abbrev pub IsPaceWithin : ℕ → Pace → Type 0
+IsPaceWithin workers Threads = Unit {0}
+IsPaceWithin workers (Turns schedule turns) = (schedule.now ≢ []) × (length schedule.now ≤ 4096) × All (λ i. i < workers) schedule.now
+
+-- 1 to 64 workers, a greatest life of 1 to 65,535, and a schedule for them, if any
 pub record AreWithin (t : Terms) : Type 0 where
   pub workers : (1 ≤ t.workers) × (t.workers ≤ 64)
   pub lives : (1 ≤ t.lives) × (t.lives ≤ 65535)
-  pub some_turn : t.schedule.now ≢ []
-  pub few : length t.schedule.now ≤ 4096
-  pub named : All (λ i. i < t.workers) t.schedule.now
+  pub pace : IsPaceWithin t.workers t.pace
 
 -- ---- how many turns there are
 
@@ -51,17 +57,12 @@ pub record AreWithin (t : Terms) : Type 0 where
 abbrev pub places_in : Graph → ℕ
 places_in g = sum_by (λ k. length (g.preds k)) g.keys
 
--- for one worker, by the tasks and their places: a multiple of what there is to do, and a billion for faults
-abbrev pub calm_turns : ℕ → ℕ → ℕ
-calm_turns tasks places = 200 * (tasks + 1) * (places + tasks + 2) + 1000000000
-
 -- for any workers, by the lengths of schedule and plan, the tasks and their places; at least a million, and at most what a counter holds
 abbrev pub ample_turns : ℕ → ℕ → ℕ → ℕ → ℕ
 ample_turns schedule plan tasks places =
     min (max (200 * schedule * (2 * plan + 1) * (tasks + 1) * (places + tasks + 2) * (places + tasks + 2)) 1000000) (2 ^ 64 - 1)
 
--- how many turns a run may take
-abbrev pub turn_count : Turns → ℕ → ℕ → ℕ → ℕ → ℕ
-turn_count (Given turns) schedule plan tasks places = turns
-turn_count Ample schedule plan tasks places = ample_turns schedule plan tasks places
-turn_count Calm schedule plan tasks places = calm_turns tasks places
+-- how many turns a run may take: those that are given, or as many as the schedule, the plan and the graph decide
+abbrev pub turn_count : Option ℕ → ℕ → ℕ → ℕ → ℕ → ℕ
+turn_count (Some turns) schedule plan tasks places = turns
+turn_count None schedule plan tasks places = ample_turns schedule plan tasks places

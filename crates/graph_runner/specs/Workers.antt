@@ -1,18 +1,35 @@
--- The kernels of a run by workers, each with one of the probes.
-use Rattle.std.specs.Prelude.{◌≡◌, ◌++◌, ℕ, List, length, map, All}
-use Rattle.acyclic_audit.specs.declared.graph.FileGraph.{FileGraph}
-use Rattle.graph_runner.specs.declared.kernel.FormulaKernel.{FormulaKernel}
+-- The kernels of a run by workers, and what the run comes to.
+use Rattle.std.specs.Prelude.{◌≡◌, ◌↔◌, ℕ, ℤ, Bool, true, List, length, All, Result, Ok, Err}
+use Rattle.graph_model.specs.Graph.{Graph}
+use Rattle.graph_model.specs.Notes.{Note}
+use Rattle.graph_model.specs.Serial.{Outcome}
+use Rattle.graph_model.specs.declared.plan.Strike.{Strike}
+use Rattle.graph_model.specs.declared.record.Record.{Record}
+use Rattle.worker_pool.specs.Completing.{AnswersPlan, IsComplete}
+use Rattle.worker_pool.specs.Ends.{HasAllRecords, RunTells}
+use Rattle.worker_pool.specs.declared.end.Why.{Why}
+use Rattle.worker_pool.specs.declared.end.Why.TheVariants as why
+use Rattle.graph_runner.specs.Notes.{AreRecorded}
 
--- the probes of kernels, in their order
-abbrev pub probes_in : {P : Type 0} → List (FormulaKernel P) → List P
-probes_in kernels = map (λ kernel. kernel.probe) kernels
-
--- all kernels compute the tasks of this graph
-abbrev pub OnGraph : {P : Type 0} → FileGraph → List (FormulaKernel P) → Type 0
-OnGraph g kernels = All (λ kernel. kernel.graph.now ≡ g) kernels
-
--- so many kernels of the graph have the first of these probes, and the others are left
-pub record AreKernels {P : Type 0} (g : FileGraph) (count : ℕ) (probes : List P) (kernels : List (FormulaKernel P)) (rest : List P) : Type 0 where
+-- so many kernels, each of which makes and takes this
+pub record AreKernels {K : Type 0} (makes : Outcome) (takes : ℕ → List (List ℤ) → Type 0) (outcome : K → Outcome) (fits : K → ℕ → List (List ℤ) → Type 0) (count : ℕ) (kernels : List K) : Type 0 where
   pub many : length kernels ≡ count
-  pub graph : OnGraph g kernels
-  pub front : probes_in kernels ++ rest ≡ probes
+  pub same_makes : All (λ a. outcome a ≡ makes) kernels
+  pub same_takes : All (λ a. (k : ℕ) (lists : List (List ℤ)) → fits a k lists ↔ takes k lists) kernels
+
+-- turns are over only where there are turns
+abbrev pub IsDue : Bool → Why → Type 0
+IsDue turned why.OutOfMemory = Unit {0}
+IsDue turned (why.LivesSpent k l c) = Unit {0}
+IsDue turned (why.ScheduleShort pending) = turned ≡ true
+
+-- what a run says of its plan
+abbrev pub RunAnswers : Graph → List Strike → ℕ → Result (List ℤ) Why → List Record → Type 0
+RunAnswers g strikes lives (Ok value) records = AnswersPlan g strikes records
+RunAnswers g strikes lives (Err reason) records = IsComplete g strikes lives reason records
+
+-- what a run comes to: the value, or why there is none, with its records, and what the probes were told
+pub record RunComes (g : Graph) (outcome : Outcome) (strikes : List Strike) (lives : ℕ) (made : Result (List ℤ) Why) (records : List Record) (news : List (List Note)) : Type 0 where
+  pub tells : RunTells g outcome strikes lives made records
+  pub answers : RunAnswers g strikes lives made records
+  pub noted : HasAllRecords made → AreRecorded news records

@@ -4,7 +4,7 @@ use Rattle.io_edge.specs.Bytes.{Added}
 use Rattle.io_edge.specs.Causes.{Rose}
 use Rattle.graph_runner.specs.Endings.{status_of, message_of}
 use Rattle.graph_runner.specs.declared.ending.Ending.{Ending}
-use Rattle.graph_runner.specs.declared.ending.Ending.TheVariants.{Done, Usage, ReadFault, WriteFault, Text, Audit, NotYet, LivesSpent, ScheduleShort, OutOfMemory, TooLong}
+use Rattle.graph_runner.specs.declared.ending.Ending.TheVariants.{Done, Usage, ReadFault, WriteFault, Text, Audit, Matrix, LivesSpent, ScheduleShort, OutOfMemory, TooLong}
 
 -- the sink before and after a call
 pub record Output : Type 0 where
@@ -33,7 +33,7 @@ Delivers output text Usage = ⊥
 Delivers output text ReadFault = ⊥
 Delivers output text (Text fault) = ⊥
 Delivers output text (Audit fault) = ⊥
-Delivers output text NotYet = ⊥
+Delivers output text (Matrix fault) = ⊥
 Delivers output text (LivesSpent k l c) = ⊥
 Delivers output text (ScheduleShort pending) = ⊥
 Delivers output text TooLong = ⊥

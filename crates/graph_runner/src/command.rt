@@ -8,12 +8,16 @@ ghost use Rattle.graph_runner.specs.declared.ending.Ending.{Ending};
 
 use crate::ending::Ending;
 use crate::finish::{CheckEnd, finish};
-use crate::serve::{checked, printed, ran, replayed};
+use crate::paths::solved;
+use crate::runs::{drilled, ran};
+use crate::serve::{checked, printed};
 use crate::terms::terms_of;
 use command_words::{Command, command_of};
 use graph_model::{Probe, Record, Text};
 use io_edge::{Sink, Source};
 use std::alloc::Global;
+use std::sync::Wait;
+use std::thread::Threads;
 
 /// What a command ends with.
 #[derive(Drop)]
@@ -69,7 +73,8 @@ pub fn check_command<S: Source, K: Sink>(
 }
 
 // What a command makes of the source.
-fn served<S: Source, P: Probe + Drop>(
+fn served<R: Threads + Wait + Sync, S: Source, P: Probe + Drop>(
+    rt: &R,
     alloc: Global,
     command: &Command,
     source: &mut S,
@@ -82,17 +87,19 @@ fn served<S: Source, P: Probe + Drop>(
     ensures { (news : List (List Note)) × Told P.notes probes.old.items probes.new.items news
         × Makes (asked command.now) (record { left = S.left source.old; left_after = S.left source.new; faults = S.faults source.old; faults_after = S.faults source.new }) records.new.items news result }
 {
-    if let Some(terms) = terms_of(command) {
-        return replayed(alloc, source, &terms, probes, records);
-    }
+    let Some(terms) = terms_of(command) else {
+        return shown(alloc, command, source);
+    };
     match command {
-        Command::Run { .. } => ran(alloc, source, probes, records),
-        _ => shown(alloc, command, source),
+        Command::Drill { number, .. } => drilled(rt, alloc, *number, &terms, probes, records),
+        Command::Paths { .. } => solved(rt, alloc, source, &terms, probes, records),
+        _ => ran(rt, alloc, source, &terms, probes, records),
     }
 }
 
 // What the words make of the source.
-fn words_served<S: Source, P: Probe + Drop>(
+fn words_served<R: Threads + Wait + Sync, S: Source, P: Probe + Drop>(
+    rt: &R,
     alloc: Global,
     words: &[String],
     source: &mut S,
@@ -105,15 +112,17 @@ fn words_served<S: Source, P: Probe + Drop>(
         × WordsMake (map string_bytes words.now) (record { left = S.left source.old; left_after = S.left source.new; faults = S.faults source.old; faults_after = S.faults source.new }) records.new.items news result }
 {
     match command_of(alloc, words)? {
-        Some(command) => served(alloc, &command, source, probes, records),
+        Some(command) => served(rt, alloc, &command, source, probes, records),
         None => Err(Ending::Usage),
     }
 }
 
-/// Runs, checks or prints a graph file. The words are those of the command line without the program's name.
+/// Runs, checks or prints a graph. The words are those of the command line without the program's name.
 ///
-/// Each of the first probes is told what one worker computes. All probes come back in their order.
-pub fn run_command<S: Source, K: Sink, P: Probe + Drop>(
+/// Each of the first probes is told what one worker computes. All probes come back in their order. The workers of all
+/// runs but `replay` have a thread each, for which this call waits.
+pub fn run_command<R: Threads + Wait + Sync, S: Source, K: Sink, P: Probe + Drop>(
+    rt: &R,
     alloc: Global,
     words: &[String],
     source: &mut S,
@@ -130,7 +139,7 @@ pub fn run_command<S: Source, K: Sink, P: Probe + Drop>(
 {
     let mut probes = probes;
     let mut records = Vec::new(alloc);
-    let made = words_served(alloc, words, source, &mut probes, &mut records);
+    let made = words_served(rt, alloc, words, source, &mut probes, &mut records);
     let CheckEnd { status, message } = finish(alloc, made, sink);
     End {
         status,

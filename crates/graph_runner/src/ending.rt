@@ -2,7 +2,8 @@ ghost use Rattle.std.specs.Prelude.{◌≡◌, ◌++◌, ◌∷◌, [], IfOk, On
 ghost use Rattle.graph_runner.specs.Endings.{status_of, message_of, run_ending};
 ghost use Rattle.graph_runner.specs.declared.ending.Ending.TheVariants.{OutOfMemory};
 
-use crate::messages::{put_audit_fault, put_round, put_spent, put_text_fault};
+use crate::messages::{put_audit_fault, put_matrix_fault, put_round, put_spent, put_text_fault};
+use apsp_graph::MatrixFault;
 use audit_checks::AuditFault;
 use graph_model::{Cause, Key, Text};
 use graph_reader::TextFault;
@@ -21,8 +22,8 @@ pub enum Ending {
     Text { fault: TextFault },
     /// The graph is not accepted.
     Audit { fault: AuditFault },
-    /// A plan of faults is not run yet.
-    NotYet,
+    /// The text is no matrix.
+    Matrix { fault: MatrixFault },
     /// The task may have no life after this one, which was struck.
     LivesSpent { key: Key, life: u32, cause: Cause },
     /// The turns were over with so much left to do.
@@ -60,7 +61,7 @@ impl Ending {
             Ending::Usage => 2,
             Ending::ReadFault => 3,
             Ending::WriteFault => 4,
-            Ending::Text { .. } | Ending::NotYet => 5,
+            Ending::Text { .. } | Ending::Matrix { .. } => 5,
             Ending::Audit { .. } => 6,
             Ending::LivesSpent { .. } => 7,
             Ending::OutOfMemory => 8,
@@ -89,7 +90,10 @@ impl Ending {
                 put_audit_fault(text, *fault)?;
                 put(text, "\n")
             }
-            Ending::NotYet => put(text, "not supported yet\n"),
+            Ending::Matrix { fault } => {
+                put_matrix_fault(text, *fault)?;
+                put(text, "\n")
+            }
             Ending::LivesSpent { key, life, cause } => {
                 put_spent(alloc, text, *key, *life, cause)?;
                 put(text, "\n")

@@ -2,6 +2,7 @@ ghost use Rattle.formula_text.specs.Trees.{HasInputs};
 ghost use Rattle.graph_model.specs.Graph.{IsTask};
 ghost use Rattle.acyclic_audit.specs.Views.{graph};
 
+use crate::probed::{Noting, Probed};
 use acyclic_audit::FileGraph;
 use graph_model::{Inputs, Kernel, Key, Probe};
 use std::alloc::AllocError;
@@ -13,7 +14,7 @@ pub struct FormulaKernel<'a, P> {
     probe: P,
 }
 
-impl<'a, P: Probe> FormulaKernel<'a, P> {
+impl<'a, P> FormulaKernel<'a, P> {
     ghost use Rattle.std.specs.Prelude.{◌≡◌};
 
     pub fn new(graph: &'a FileGraph, probe: P) -> FormulaKernel<'a, P>
@@ -50,5 +51,23 @@ impl<'a, P: Probe> Kernel for FormulaKernel<'a, P> {
     fn compute(&mut self, key: Key, life: u32, inputs: &Inputs, out: &mut [i64]) {
         out[0] = self.graph.formula(key).eval(inputs.cells());
         self.probe.note(key, life);
+    }
+}
+
+impl<'a, P: Probe + Drop> Probed<&'a FileGraph, P> for FormulaKernel<'a, P> {
+    ghost use Rattle.graph_runner.specs.Formulas.{formula_outcome, FitsFormula};
+
+    ghost makes = { λ g. formula_outcome g.now };
+
+    ghost takes = { λ g. FitsFormula g.now };
+
+    fn probed(graph: &'a FileGraph, probe: P) -> Self {
+        FormulaKernel::new(graph, probe)
+    }
+}
+
+impl<'a, P: Probe + Drop> Noting<P> for FormulaKernel<'a, P> {
+    fn unprobed(self) -> P {
+        self.into_probe()
     }
 }

@@ -1,4 +1,4 @@
-//! The commands that read a graph file, run it, check it or print it.
+//! The commands that run, check or print a graph.
 #![tactic(auto)]
 
 mod command;
@@ -7,6 +7,9 @@ mod finish;
 mod kernel;
 mod load;
 mod messages;
+mod paths;
+mod probed;
+mod runs;
 mod serve;
 mod terms;
 mod workers;

@@ -1,17 +1,16 @@
 //! From a source to a graph and a plan.
 
 ghost use Rattle.std.specs.Prelude.{◌≡◌, ◌≢◌};
-ghost use Rattle.raw_graph.specs.Graph.{graph_of};
-ghost use Rattle.raw_graph.specs.Limits.{IsGraphWithin};
+ghost use Rattle.acyclic_audit.specs.Meaning.{IsInLimits};
 ghost use Rattle.graph_reader.specs.declared.fault.TextFault.TheVariants as text;
 ghost use Rattle.graph_runner.specs.Accepting.{Accepts};
-ghost use Rattle.graph_runner.specs.Loading.{Loads};
+ghost use Rattle.graph_runner.specs.Loading.{Loads, Takes};
 ghost use Rattle.graph_runner.specs.Opening.{Opens};
 ghost use Rattle.graph_runner.specs.Endings.{audit_ending, text_ending};
 
 use crate::ending::Ending;
 use acyclic_audit::{AuditFault, FileGraph, audit};
-use graph_model::FaultPlan;
+use graph_model::{FaultPlan, Text};
 use graph_reader::{TextFault, read_graph};
 use io_edge::{ReadEnd, Source, read_all};
 use raw_graph::RawGraph;
@@ -39,6 +38,18 @@ fn audit_ending(fault: AuditFault) -> Ending
     }
 }
 
+/// All bytes of the source.
+pub(crate) fn taken<S: Source>(alloc: Global, source: &mut S) -> Result<Text, Ending>
+    ensures { Takes (record { left = S.left source.old; left_after = S.left source.new; faults = S.faults source.old; faults_after = S.faults source.new }) result }
+{
+    match read_all(alloc, source, INPUT_LIMIT) {
+        Ok(bytes) => Ok(bytes),
+        Err(ReadEnd::Fault) => Err(Ending::ReadFault),
+        Err(ReadEnd::TooLong) => Err(Ending::TooLong),
+        Err(ReadEnd::OutOfMemory) => Err(Ending::OutOfMemory),
+    }
+}
+
 /// The graph and the plan that the source holds.
 pub(crate) fn load<S: Source>(
     alloc: Global,
@@ -46,12 +57,7 @@ pub(crate) fn load<S: Source>(
 ) -> Result<(RawGraph, FaultPlan), Ending>
     ensures { Loads (record { left = S.left source.old; left_after = S.left source.new; faults = S.faults source.old; faults_after = S.faults source.new }) result }
 {
-    let bytes = match read_all(alloc, source, INPUT_LIMIT) {
-        Ok(bytes) => bytes,
-        Err(ReadEnd::Fault) => return Err(Ending::ReadFault),
-        Err(ReadEnd::TooLong) => return Err(Ending::TooLong),
-        Err(ReadEnd::OutOfMemory) => return Err(Ending::OutOfMemory),
-    };
+    let bytes = taken(alloc, source)?;
     match read_graph(alloc, bytes.as_slice()) {
         Ok(file) => Ok(file),
         Err(fault) => Err(text_ending(fault)),
@@ -60,7 +66,7 @@ pub(crate) fn load<S: Source>(
 
 // The graph as a task graph, where it is accepted.
 fn accept(alloc: Global, raw: RawGraph) -> Result<FileGraph, Ending>
-    requires { IsGraphWithin (graph_of raw) }
+    requires { IsInLimits raw.tasks.items raw.sink.0 }
     ensures { Accepts raw result }
 {
     match audit(alloc, raw) {

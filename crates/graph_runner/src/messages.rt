@@ -1,9 +1,10 @@
-//! The words that tell faults of texts and graphs.
+//! The words that tell faults of texts, graphs and matrices.
 
 ghost use Rattle.std.specs.Prelude.{◌≡◌, ◌++◌, OnOk};
 ghost use Rattle.run_records.specs.Text.{cause_text};
-ghost use Rattle.graph_runner.specs.Messages.{audit_text, block_text, formula_text, round_text, shown_fault, spent_text, task_text};
+ghost use Rattle.graph_runner.specs.Messages.{audit_text, block_text, formula_text, matrix_text, round_text, shown_fault, spent_text, task_text};
 
+use apsp_graph::MatrixFault;
 use audit_checks::AuditFault;
 use formula_text::FormulaFault;
 use graph_model::{Cause, Key, Text};
@@ -145,6 +146,24 @@ pub(crate) fn put_audit_fault(text: &mut Vec<u8>, fault: AuditFault) -> Result<(
             put_task_fault(text, task.0, " has no input ", input as u64, "")
         }
         AuditFault::OutOfMemory => put(text, "out of memory"),
+    }
+}
+
+/// Appends why a text is no matrix.
+pub(crate) fn put_matrix_fault(text: &mut Vec<u8>, fault: MatrixFault) -> Result<(), AllocError>
+    ensures { OnOk result (text.new.items ≡ text.old.items ++ matrix_text fault) }
+{
+    match fault {
+        MatrixFault::Head => put(text, "bad first line"),
+        MatrixFault::Size => put(text, "bad size"),
+        MatrixFault::Line { line } => put_field(text, "bad line ", u64::from(line)),
+        MatrixFault::Weight { line } => put_field(
+            text,
+            "weight too large in line ",
+            u64::from(line),
+        ),
+        MatrixFault::Fault { line } => put_field(text, "bad fault in line ", u64::from(line)),
+        MatrixFault::OutOfMemory => put(text, "out of memory"),
     }
 }
 

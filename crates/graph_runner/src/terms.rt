@@ -1,22 +1,23 @@
 //! On what terms a graph is run by workers.
 
 ghost use Rattle.std.specs.Prelude.{◌≡◌, ◌≤◌, length, false, MatchOption};
-ghost use Rattle.acyclic_audit.specs.Views.{graph as tasks_of};
 ghost use Rattle.command_words.specs.Meaning.{asked};
-ghost use Rattle.graph_runner.specs.Terms.{HasTerms, ample_turns, by_workers, calm_turns, places_in, turn_count, turns_given};
+ghost use Rattle.graph_runner.specs.Terms.{HasTerms, ample_turns, by_workers, places_in, turn_count};
 
-use acyclic_audit::FileGraph;
 use command_words::Command;
 use graph_model::{FaultPlan, TaskGraph};
 
-/// How many turns a run may take.
+/// How workers come to do their work.
 #[derive(Clone, Copy, Debug)]
-pub(crate) enum Turns {
-    Given { turns: u64 },
-    /// As many as the schedule, the plan and the graph decide.
-    Ample,
-    /// As many as the graph decides, for one worker.
-    Calm,
+pub(crate) enum Pace<'a> {
+    /// Each has a thread.
+    Threads,
+    /// The workers of the schedule take a turn, in their order, over and over, so often or as often as the schedule, the
+    /// plan and the graph decide.
+    Turns {
+        schedule: &'a [u32],
+        turns: Option<u64>,
+    },
 }
 
 /// How a graph is run by workers.
@@ -25,47 +26,29 @@ pub(crate) struct Terms<'a> {
     pub workers: u32,
     /// The greatest life that a task may have.
     pub lives: u32,
-    /// The workers that take a turn, in their order, over and over.
-    pub schedule: &'a [u32],
-    pub turns: Turns,
+    pub pace: Pace<'a>,
     /// Whether the records are printed.
     pub detail: bool,
 }
 
-// One worker takes all turns.
-const ALONE: &[u32] = &[0];
+// The greatest life where the words don't say it.
+const LIVES: u32 = 65_535;
 
-// How many turns `replay` may take.
-fn turns_given(turns: Option<u64>) -> Turns
-    ensures { result ≡ turns_given turns }
-{
-    match turns {
-        Some(turns) => Turns::Given { turns },
-        None => Turns::Ample,
-    }
-}
-
-/// The terms of a command that is run by workers. `run` is where its records are printed.
+/// The terms of a command that is run by workers.
 pub(crate) fn terms_of<'a>(command: &'a Command) -> Option<Terms<'a>>
     ensures { MatchOption result (by_workers (asked command.entry.now) ≡ false) (HasTerms (asked command.entry.now)) }
 {
     match command {
         Command::Run {
-            workers: _,
+            workers,
             lives,
             records,
-        } => {
-            if !*records {
-                return None;
-            }
-            Some(Terms {
-                workers: 1,
-                lives: *lives,
-                schedule: ALONE,
-                turns: Turns::Calm,
-                detail: true,
-            })
-        }
+        } => Some(Terms {
+            workers: *workers,
+            lives: *lives,
+            pace: Pace::Threads,
+            detail: *records,
+        }),
         Command::Replay {
             workers,
             lives,
@@ -75,20 +58,32 @@ pub(crate) fn terms_of<'a>(command: &'a Command) -> Option<Terms<'a>>
         } => Some(Terms {
             workers: *workers,
             lives: *lives,
-            schedule: schedule.as_slice(),
-            turns: turns_given(*turns),
+            pace: Pace::Turns {
+                schedule: schedule.as_slice(),
+                turns: *turns,
+            },
             detail: *records,
         }),
-        Command::Paths { .. } => None,
-        Command::Drill { .. } => None,
+        Command::Paths { workers, lives } => Some(Terms {
+            workers: *workers,
+            lives: *lives,
+            pace: Pace::Threads,
+            detail: false,
+        }),
+        Command::Drill { number: _, workers } => Some(Terms {
+            workers: *workers,
+            lives: LIVES,
+            pace: Pace::Threads,
+            detail: false,
+        }),
         Command::Check => None,
         Command::Print => None,
     }
 }
 
 // How many predecessor places all tasks have together.
-fn place_count(graph: &FileGraph) -> u32
-    ensures count { result ≡ places_in (tasks_of graph.now) }
+fn place_count<G: TaskGraph>(graph: &G) -> u32
+    ensures count { result ≡ places_in (G.graph graph.now) }
     ensures few { result ≤ 41943040 }
 {
     let mut count = 0;
@@ -96,15 +91,6 @@ fn place_count(graph: &FileGraph) -> u32
         count += graph.pred_count(graph.task(i));
     }
     count
-}
-
-fn calm_turns(tasks: u32, places: u32) -> u64
-    requires tasks { tasks ≤ 1048576 }
-    requires places { places ≤ 41943040 }
-    ensures { result ≡ calm_turns tasks places }
-{
-    let room = u64::from(places) + u64::from(tasks) + 2;
-    200 * (u64::from(tasks) + 1) * room + 1_000_000_000
 }
 
 fn ample_turns(schedule: u32, strikes: u32, tasks: u32, places: u32) -> u64
@@ -120,19 +106,23 @@ fn ample_turns(schedule: u32, strikes: u32, tasks: u32, places: u32) -> u64
     turns.max(1_000_000).min(u128::from(u64::MAX)) as u64
 }
 
-/// How many turns a run of this graph with this plan may take.
-pub(crate) fn turns_for(terms: &Terms<'_>, graph: &FileGraph, plan: &FaultPlan) -> u64
-    requires { length terms.now.schedule.now ≤ 4096 }
-    ensures { result ≡ turn_count terms.now.turns (length terms.now.schedule.now) (length plan.now) (length (tasks_of graph.now).keys) (places_in (tasks_of graph.now)) }
+/// How many turns a run of this graph with this schedule and plan may take.
+pub(crate) fn turns_for<G: TaskGraph>(
+    turns: Option<u64>,
+    schedule: &[u32],
+    graph: &G,
+    plan: &FaultPlan,
+) -> u64
+    requires { length schedule.now ≤ 4096 }
+    ensures { result ≡ turn_count turns (length schedule.now) (length plan.now) (length (G.graph graph.now).keys) (places_in (G.graph graph.now)) }
 {
-    match terms.turns {
-        Turns::Given { turns } => turns,
-        Turns::Ample => ample_turns(
-            terms.schedule.len() as u32,
+    match turns {
+        Some(turns) => turns,
+        None => ample_turns(
+            schedule.len() as u32,
             plan.len(),
             graph.task_count(),
             place_count(graph),
         ),
-        Turns::Calm => calm_turns(graph.task_count(), place_count(graph)),
     }
 }

@@ -1,77 +1,74 @@
 //! Graphs that are run by workers, one for each kernel.
 
-ghost use Rattle.std.specs.Prelude.{◌≡◌, ◌+◌, ◌≤◌, ◌++◌, List, length, map, vec_capacity, vec_len, All, IfOk, OnErr};
+ghost use Rattle.std.specs.Prelude.{◌≡◌, ◌+◌, ◌++◌, ◌≤◌, List, length, map, vec_capacity, vec_len, IfErr, IfOk};
 ghost use Rattle.graph_model.specs.Notes.{Note};
-ghost use Rattle.acyclic_audit.specs.Views.{graph as tasks_of};
-ghost use Rattle.worker_pool.specs.Ends.{HasAllRecords, RunTells};
-ghost use Rattle.graph_runner.specs.Formulas.{formula_outcome};
-ghost use Rattle.graph_runner.specs.Notes.{AreRecorded, Told};
-ghost use Rattle.graph_runner.specs.Terms.{AreWithin};
-ghost use Rattle.graph_runner.specs.Workers.{AreKernels, OnGraph, probes_in};
+ghost use Rattle.worker_pool.specs.Calling.{AreAlike, CalledAsRecorded, CanRun, FirstFits, SameKernels, first_outcome};
+ghost use Rattle.worker_pool.specs.Completing.{AnswersPlan, IsComplete};
+ghost use Rattle.worker_pool.specs.Ends.{EndCalls, EndTells, IsFinished, RunCalls, RunTells};
+ghost use Rattle.graph_runner.specs.Notes.{Told};
+ghost use Rattle.graph_runner.specs.Terms.{AreWithin, is_turned};
+ghost use Rattle.graph_runner.specs.Workers.{IsDue, RunAnswers, RunComes};
 
-use crate::kernel::FormulaKernel;
-use crate::terms::{Terms, turns_for};
-use acyclic_audit::FileGraph;
-use graph_model::{Cells, FaultPlan, Probe, Record};
-use std::alloc::{AllocError, Global};
-use worker_pool::{Finished, RunEnd, Why, run_virtual};
+use crate::probed::{Noting, put_back};
+use crate::terms::{Pace, Terms, turns_for};
+use graph_model::{Cells, FaultPlan, Kernel, Probe, Record, TaskGraph};
+use std::alloc::Global;
+use std::sync::Wait;
+use std::thread::Threads;
+use worker_pool::{Finished, RunEnd, Why, run_graph, run_virtual};
 
-// A kernel for each of so many probes, which are taken from the front.
-fn kernels_of<'a, P: Probe + Drop>(
+// Runs a graph by these kernels: in threads, or by turns in one.
+fn run_at_pace<R: Threads + Wait + Sync, G: TaskGraph, Ke: Kernel>(
+    rt: &R,
     alloc: Global,
-    graph: &'a FileGraph,
-    probes: &mut Vec<P>,
-    count: u32,
-) -> Result<Vec<FormulaKernel<'a, P>>, AllocError>
-    requires { count ≤ vec_len probes.old }
-    ensures kernels { IfOk result (λ kernels. AreKernels graph.entry.now count probes.old.items kernels.items probes.new.items) }
-    ensures refused { OnErr result (probes.new.items ≡ probes.old.items) }
-    ensures room { IfOk result (λ kernels. vec_len kernels + vec_len probes.new ≤ vec_capacity probes.new) }
+    graph: &G,
+    plan: &FaultPlan,
+    terms: &Terms<'_>,
+    kernels: Vec<Ke>,
+) -> Result<Finished<Ke>, RunEnd<Ke>>
+    requires terms { AreWithin terms.now }
+    requires kernels { length kernels.items ≡ terms.now.workers }
+    requires alike { AreAlike Ke.outcome Ke.fits kernels.items }
+    requires can { CanRun (G.graph graph.now) (first_outcome Ke.outcome kernels.items) (FirstFits Ke.fits kernels.items) }
+    ensures finished { IfOk result (λ f. IsFinished (G.graph graph.now) (first_outcome Ke.outcome kernels.items) plan.now f.value f.records.items) }
+    ensures calls { IfOk result (λ f. CalledAsRecorded (map Ke.calls kernels.items) (map Ke.calls f.kernels.items) f.records.items) }
+    ensures kernels { IfOk result (λ f. SameKernels Ke.outcome Ke.fits kernels.items f.kernels.items) }
+    ensures answers { IfOk result (λ f. AnswersPlan (G.graph graph.now) plan.now f.records.items) }
+    ensures ended { IfErr result (λ r. EndTells (G.graph graph.now) (first_outcome Ke.outcome kernels.items) plan.now terms.now.lives r.why r.records.items) }
+    ensures end_calls { IfErr result (λ r. EndCalls (map Ke.calls kernels.items) (map Ke.calls r.kernels.items) r.why r.records.items) }
+    ensures end_kernels { IfErr result (λ r. SameKernels Ke.outcome Ke.fits kernels.items r.kernels.items) }
+    ensures complete { IfErr result (λ r. IsComplete (G.graph graph.now) plan.now terms.now.lives r.why r.records.items) }
+    ensures due { IfErr result (λ r. IsDue (is_turned terms.now.pace) r.why) }
 {
-    let mut kernels = Vec::with_capacity(alloc, count as usize)?;
-    for _ in 0..count {
-        let _ = kernels.push(FormulaKernel::new(graph, probes.remove(0)));
-    }
-    Ok(kernels)
-}
-
-// Puts the probes of kernels back before the others.
-fn put_back<'a, P: Probe + Drop>(kernels: Vec<FormulaKernel<'a, P>>, probes: &mut Vec<P>)
-    requires { vec_len kernels + vec_len probes.old ≤ vec_capacity probes.old }
-    ensures { probes.new.items ≡ probes_in kernels.entry.items ++ probes.old.items }
-{
-    let mut kernels = kernels;
-    while let Some(kernel) = kernels.pop() {
-        let _ = probes.insert(0, kernel.into_probe());
+    match terms.pace {
+        Pace::Threads => run_graph(rt, alloc, graph, kernels, plan, terms.lives),
+        Pace::Turns { schedule, turns } => {
+            let turns = turns_for(turns, schedule, graph, plan);
+            run_virtual(alloc, graph, kernels, plan, terms.lives, schedule, turns)
+        }
     }
 }
 
 // What the workers of these kernels come to, with the records and the kernels in their order.
-fn run_kernels<'a, P: Probe + Drop>(
+fn run_kernels<R: Threads + Wait + Sync, G: TaskGraph, Ke: Kernel>(
+    rt: &R,
     alloc: Global,
-    graph: &'a FileGraph,
+    graph: &G,
     plan: &FaultPlan,
     terms: &Terms<'_>,
-    kernels: Vec<FormulaKernel<'a, P>>,
-) -> (Result<Cells, Why>, Vec<Record>, Vec<FormulaKernel<'a, P>>)
+    kernels: Vec<Ke>,
+) -> (Result<Cells, Why>, Vec<Record>, Vec<Ke>)
     requires terms { AreWithin terms.now }
-    requires count { length kernels.items ≡ terms.now.workers }
-    requires graph { OnGraph graph.now kernels.items }
-    ensures tells { RunTells (tasks_of graph.entry.now) (formula_outcome graph.entry.now) plan.now terms.now.lives result.0 result.1.items }
-    ensures count { length result.2.items ≡ length kernels.entry.items }
-    ensures told { (news : List (List Note)) × Told P.notes (probes_in kernels.entry.items) (probes_in result.2.items) news
-        × (HasAllRecords result.0 → AreRecorded news result.1.items) }
+    requires kernels { length kernels.items ≡ terms.now.workers }
+    requires alike { AreAlike Ke.outcome Ke.fits kernels.items }
+    requires can { CanRun (G.graph graph.now) (first_outcome Ke.outcome kernels.items) (FirstFits Ke.fits kernels.items) }
+    ensures tells { RunTells (G.graph graph.now) (first_outcome Ke.outcome kernels.items) plan.now terms.now.lives result.0 result.1.items }
+    ensures answers { RunAnswers (G.graph graph.now) plan.now terms.now.lives result.0 result.1.items }
+    ensures calls { RunCalls (map Ke.calls kernels.items) (map Ke.calls result.2.items) result.0 result.1.items }
+    ensures due { IfErr result.0 (IsDue (is_turned terms.now.pace)) }
+    ensures count { vec_len result.2 ≡ vec_len kernels }
 {
-    let turns = turns_for(terms, graph, plan);
-    match run_virtual(
-        alloc,
-        graph,
-        kernels,
-        plan,
-        terms.lives,
-        terms.schedule,
-        turns,
-    ) {
+    match run_at_pace(rt, alloc, graph, plan, terms, kernels) {
         Ok(
             Finished {
                 value,
@@ -89,26 +86,33 @@ fn run_kernels<'a, P: Probe + Drop>(
     }
 }
 
-/// Runs a graph with this plan of faults by workers, each of which has one of the first probes.
-pub(crate) fn run_by_workers<P: Probe + Drop>(
+/// Runs a graph with this plan of faults by workers with these kernels, whose probes it puts back before the others.
+pub(crate) fn run_by_workers<
+    R: Threads + Wait + Sync,
+    G: TaskGraph,
+    P: Probe + Drop,
+    Ke: Noting<P>,
+>(
+    rt: &R,
     alloc: Global,
-    graph: &FileGraph,
+    graph: &G,
     plan: &FaultPlan,
     terms: &Terms<'_>,
+    kernels: Vec<Ke>,
     probes: &mut Vec<P>,
     records: &mut Vec<Record>,
 ) -> Result<Cells, Why>
     requires terms { AreWithin terms.now }
-    requires probes { terms.now.workers ≤ vec_len probes.old }
-    ensures tells { RunTells (tasks_of graph.now) (formula_outcome graph.now) plan.now terms.now.lives result records.new.items }
-    ensures told { (news : List (List Note)) × Told P.notes probes.old.items probes.new.items news
-        × (HasAllRecords result → AreRecorded news records.new.items) }
+    requires kernels { length kernels.items ≡ terms.now.workers }
+    requires alike { AreAlike Ke.outcome Ke.fits kernels.items }
+    requires can { CanRun (G.graph graph.now) (first_outcome Ke.outcome kernels.items) (FirstFits Ke.fits kernels.items) }
+    requires room { vec_len kernels + vec_len probes.old ≤ vec_capacity probes.old }
+    ensures comes { (before : List P) → map Ke.calls kernels.items ++ map P.notes probes.old.items ≡ map P.notes before → (news : List (List Note)) × Told P.notes before probes.new.items news
+        × RunComes (G.graph graph.now) (first_outcome Ke.outcome kernels.items) plan.now terms.now.lives result records.new.items news }
+    ensures due { IfErr result (IsDue (is_turned terms.now.pace)) }
 {
-    let Ok(kernels) = kernels_of(alloc, graph, probes, terms.workers) else {
-        return Err(Why::OutOfMemory);
-    };
-    let (made, done, kernels) = run_kernels(alloc, graph, plan, terms, kernels);
-    put_back(kernels, probes);
+    let (made, done, kernels) = run_kernels::<R, G, Ke>(rt, alloc, graph, plan, terms, kernels);
+    put_back::<P, Ke>(kernels, probes);
     *records = done;
     made
 }

@@ -11,6 +11,8 @@ use std::env;
 use std::io::{ErrorKind, Write};
 use std::process::ExitCode;
 use std::rt::Env;
+use std::sync::Wait;
+use std::thread::Threads;
 
 // One probe for each worker that a run may have.
 const PROBES: usize = 64;
@@ -38,18 +40,28 @@ fn probes_of(alloc: Global) -> Result<Vec<NoProbe>, AllocError>
     vec![in alloc; NoProbe; PROBES]
 }
 
-// The end of the command, or want of memory before it.
-fn end_of(rt: &HostRuntime) -> Result<End<NoProbe>, AllocError> {
-    let words = words_of(rt)?;
-    let probes = probes_of(rt.alloc())?;
-    let mut source = StdSource::new(rt.stdin());
-    let mut sink = StdSink::new(rt.stdout());
-    Ok(run_command(rt.alloc(), words.as_slice(), &mut source, &mut sink, probes))
+// The end of the command, or want of memory before it. Threads are started by `rt`, which is the host too.
+fn end_of<R: Threads + Wait + Sync>(
+    rt: &R,
+    host: &HostRuntime,
+) -> Result<End<NoProbe>, AllocError> {
+    let words = words_of(host)?;
+    let probes = probes_of(host.alloc())?;
+    let mut source = StdSource::new(host.stdin());
+    let mut sink = StdSink::new(host.stdout());
+    Ok(run_command(
+        rt,
+        host.alloc(),
+        words.as_slice(),
+        &mut source,
+        &mut sink,
+        probes,
+    ))
 }
 
 fn main(rt: HostRuntime) -> ExitCode {
     let mut errors = rt.stderr();
-    match end_of(&rt) {
+    match end_of(&rt, &rt) {
         Ok(end) if end.status != OUT_OF_MEMORY => {
             let _ = errors.write_all(end.message.as_slice());
             ExitCode::from(end.status)

@@ -1,6 +1,10 @@
 use Rattle.std.proofs.lemmas.Result.{err_from_is_err_and}
+use Rattle.graph_runner.proofs.Limits.{in_limits}
 use Rattle.graph_runner.proofs.Opens.{unaccepted}
 use Rattle.graph_runner.proofs.load.open.Goals as goal
+
+pub accept-requires : goal.accept-requires
+accept-requires g c = in_limits c.in_ok-raw.raw c.in_ok-raw.ensures.1.graph
 
 pub returns-in_err-graph : goal.returns-in_err-graph
 returns-in_err-graph g c =

@@ -1,4 +1,0 @@
-pub mod Evaluating
-pub mod Gathering
-pub mod Listing
-pub mod Numbers

@@ -1,3 +1,0 @@
-pub mod Computing
-pub mod Turns
-pub mod Values
