@@ -1,18 +1,27 @@
-//! Runs the command of each line of the input, and prints what came of it. A line has the words, a tab and a graph
-//! file. Of what is written the number of lines, a sum of all bytes and the first line are printed.
-#![tactic(auto)]
-
+//! What the words of a command make of a graph file, on one line.
 ghost use Rattle.std.specs.Prelude.{◌≡◌, IfOk, length};
 
 use graph_model::{Keys, NoProbe, Text};
 use graph_runner::{End, run_command};
 use io_edge::{MemSink, MemSource};
 use std::alloc::{AllocError, Global};
-use std::io;
-use std::io::Write;
+use std::sync::Wait;
+use std::thread::Threads;
 
 // More bytes than any of these commands writes.
 const ROOM: usize = 1_000_000;
+
+/// Fowler, Noll and Vo's sum of no bytes.
+pub(crate) const NO_BYTES: u64 = 0xcbf2_9ce4_8422_2325;
+
+/// Fowler, Noll and Vo's sum of 64 bits, carried on over more bytes.
+pub(crate) fn sum_of(before: u64, bytes: &[u8]) -> u64 {
+    let mut sum = before;
+    for byte in bytes {
+        sum = (sum ^ u64::from(*byte)).wrapping_mul(0x100_0000_01b3);
+    }
+    sum
+}
 
 fn words_of(alloc: Global, line: &str) -> Result<Vec<String>, AllocError> {
     let mut words = Vec::new(alloc);
@@ -22,19 +31,19 @@ fn words_of(alloc: Global, line: &str) -> Result<Vec<String>, AllocError> {
     Ok(words)
 }
 
+// What is read, with its lines apart.
+fn text_of(alloc: Global, line: &str) -> Result<Text, AllocError> {
+    let mut bytes = Vec::new(alloc);
+    for byte in line.as_bytes() {
+        bytes.push(if *byte == b'\t' { b'\n' } else { *byte })?;
+    }
+    Ok(Text::from_vec(bytes))
+}
+
 fn probes_of(alloc: Global) -> Result<Vec<NoProbe>, AllocError>
     ensures { IfOk result (λ probes. length probes.items ≡ 64) }
 {
     vec![in alloc; NoProbe; 64]
-}
-
-// Fowler, Noll and Vo's sum of 64 bits.
-fn sum_of(bytes: &[u8]) -> u64 {
-    let mut sum: u64 = 0xcbf2_9ce4_8422_2325;
-    for byte in bytes {
-        sum = (sum ^ u64::from(*byte)).wrapping_mul(0x100_0000_01b3);
-    }
-    sum
 }
 
 fn line_count(bytes: &[u8]) -> usize {
@@ -49,10 +58,15 @@ fn first_line(bytes: &[u8]) -> &[u8] {
     }
 }
 
-// What the words make of the text, on one line.
-fn answer_of(alloc: Global, words: &str, text: &str) -> Result<Vec<u8>, AllocError> {
+/// The status and the message; or of what was written the number of lines, the sum and the first line.
+pub(crate) fn answer_of<R: Threads + Wait + Sync>(
+    rt: &R,
+    alloc: Global,
+    words: &str,
+    text: &str,
+) -> Result<Vec<u8>, AllocError> {
     let words = words_of(alloc, words)?;
-    let text = Text::from_slice(alloc, text.as_bytes())?;
+    let text = text_of(alloc, text)?;
     let mut source = MemSource::new(text, ROOM, Keys::new(alloc));
     let mut sink = MemSink::new(Text::new(alloc), ROOM, Keys::new(alloc));
     sink.reserve(ROOM)?;
@@ -62,7 +76,7 @@ fn answer_of(alloc: Global, words: &str, text: &str) -> Result<Vec<u8>, AllocErr
         message,
         records: _,
         probes: _,
-    } = run_command(alloc, words.as_slice(), &mut source, &mut sink, probes);
+    } = run_command(rt, alloc, words.as_slice(), &mut source, &mut sink, probes);
     if status > 0 {
         let mut line = format!(in alloc; "{status} ")?.into_bytes();
         line.extend_from_slice(message.as_slice())?;
@@ -70,22 +84,9 @@ fn answer_of(alloc: Global, words: &str, text: &str) -> Result<Vec<u8>, AllocErr
     }
     let written = sink.as_slice();
     let lines = line_count(written);
-    let sum = sum_of(written);
+    let sum = sum_of(NO_BYTES, written);
     let mut line = format!(in alloc; "0 {lines} lines {sum} ")?.into_bytes();
     line.extend_from_slice(first_line(written))?;
     line.push(b'\n')?;
     Ok(line)
-}
-
-fn main(rt: HostRuntime) -> io::Result<()> {
-    let alloc = rt.alloc();
-    let input = io::read_to_string(alloc, rt.stdin())?;
-    let mut output = rt.stdout();
-    for line in input.lines() {
-        if let Some((words, text)) = line.split_once('\t') {
-            let answer = answer_of(alloc, words, text)?;
-            output.write_all(answer.as_slice())?;
-        }
-    }
-    Ok(())
 }
