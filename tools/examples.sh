@@ -14,8 +14,12 @@ while IFS= read -r line; do
     read -ra words <<<"${line#'$ ./run '}"
     count=$((count + 1))
     name=$cases/example$count.json
-    cp "${words[-1]}" "$name" || exit 1
-    unset 'words[-1]'
+    if [ "${words[0]}" = drill ]; then
+      : >"$name"
+    else
+      cp "${words[-1]}" "$name" || exit 1
+      unset 'words[-1]'
+    fi
     [ ${#words[@]} -gt 0 ] || words=(run)
     printf '%s\n' "${words[@]}" >"$name.args"
     : >"$name.stdout"
