@@ -1,6 +1,7 @@
 //! Workers that run a graph: threads that steal work from each other, or virtual ones, which a schedule turns.
 #![tactic(auto)]
 
+mod crew;
 mod end;
 mod joining;
 mod laws;

@@ -10,12 +10,11 @@ ghost use Rattle.worker_pool.specs.Pooling.{IsRun};
 ghost use Rattle.worker_pool.specs.Threads.{EndsWell, IsReady, IsServed, StationHolds};
 ghost use Rattle.worker_pool.specs.Working.{KeepsTable, NamesTasks, is_idle};
 
+use crate::crew::Crew;
 use crate::slot::{Ending, Slot, Station};
 use crate::worker::Terms;
 use core_state::Course;
 use core_steps::Steps;
-use crossbeam_deque::Stealer;
-use crossbeam_utils::Backoff;
 use graph_model::{Kernel, TaskGraph};
 use key_table::KeyWords;
 use std::alloc::Global;
@@ -23,11 +22,11 @@ use std::sync::Wait;
 use task_table::{TableSeat, TaskTable};
 
 // A turn of a worker without work: a look at the row of a hint, or at what is pending where it finds none.
-fn looked<T: Steps>(
+fn looked<T: Steps, R: Wait>(
+    rt: &R,
     steps: &mut T,
-    stealers: &[Stealer<u32>],
+    crew: &Crew,
     station: &mut Station,
-    backoff: &Backoff,
 ) -> Option<Ending>
     requires idle { is_idle station.old.worker.work ≡ true }
     ensures holds { (g : Graph) → NamesTasks g (T.setting steps.old) → StationHolds g (T.setting steps.old) (T.view steps.old) station.old → StationHolds g (T.setting steps.old) (T.view steps.new) station.new }
@@ -35,14 +34,15 @@ fn looked<T: Steps>(
     ensures results { SameResults (T.view steps.old) (T.view steps.new) }
     ensures table { KeepsTable T.setting T.lender T.others steps.old steps.new }
 {
-    let Some(row) = station.hint(stealers) else {
+    let number = station.number;
+    let Some(row) = station.hint(crew) else {
         if steps.load_pending() == 0 {
             return Some(Ending::Over);
         }
-        backoff.snooze();
+        station.rest.wait(rt, crew, number);
         return None;
     };
-    backoff.reset();
+    station.rest.end(crew, number);
     if row < steps.rows() {
         station.worker.look(steps, row);
     }
@@ -66,6 +66,7 @@ fn turned<T: Steps, G: TaskGraph, Ke: Kernel>(
     alloc: Global,
     steps: &mut T,
     terms: &Terms<'_, G>,
+    crew: &Crew,
     station: &mut Station,
     kernel: &mut Ke,
 ) -> Option<Ending>
@@ -83,7 +84,7 @@ fn turned<T: Steps, G: TaskGraph, Ke: Kernel>(
         .turn(alloc, steps, terms, kernel, &mut station.posted)
     {
         Ok(None) => {
-            station.share();
+            station.share(crew);
             None
         }
         Ok(Some(spent)) => {
@@ -98,14 +99,14 @@ fn turned<T: Steps, G: TaskGraph, Ke: Kernel>(
 }
 
 // One turn of a worker.
-fn round<T: Steps, G: TaskGraph, Ke: Kernel>(
+fn round<T: Steps, G: TaskGraph, Ke: Kernel, R: Wait>(
+    rt: &R,
     alloc: Global,
     steps: &mut T,
     terms: &Terms<'_, G>,
-    stealers: &[Stealer<u32>],
+    crew: &Crew,
     station: &mut Station,
     kernel: &mut Ke,
-    backoff: &Backoff,
 ) -> Option<Ending>
     requires names { NamesTasks (G.graph terms.now.graph.now) (T.setting steps.old) }
     requires holds { StationHolds (G.graph terms.now.graph.now) (T.setting steps.old) (T.view steps.old) station.old }
@@ -118,9 +119,9 @@ fn round<T: Steps, G: TaskGraph, Ke: Kernel>(
     ensures table { KeepsTable T.setting T.lender T.others steps.old steps.new }
 {
     if station.worker.is_idle() {
-        return looked(steps, stealers, station, backoff);
+        return looked(rt, steps, crew, station);
     }
-    turned(alloc, steps, terms, station, kernel)
+    turned(alloc, steps, terms, crew, station, kernel)
 }
 
 // Turns a worker until it ends. Before each turn it looks at stop, and is stopped once no block is in its hand.
@@ -129,7 +130,7 @@ fn work<C: Course, G: TaskGraph, Ke: Kernel, R: Wait>(
     alloc: Global,
     seat: &mut TableSeat<'_, C>,
     terms: &Terms<'_, G>,
-    stealers: &[Stealer<u32>],
+    crew: &Crew,
     station: &mut Station,
     kernel: &mut Ke,
 ) -> Ending
@@ -142,12 +143,11 @@ fn work<C: Course, G: TaskGraph, Ke: Kernel, R: Wait>(
     ensures kernel { SameKernel (Ke.outcome kernel.old) (Ke.outcome kernel.new) (Ke.fits kernel.old) (Ke.fits kernel.new) }
     ensures seat { lender_of seat.new.pass ≡ lender_of seat.old.pass }
 {
-    let backoff = Backoff::new();
     for _ in rt.forever() {
         if seat.sees_stop() && !station.worker.has_block() {
             return Ending::Stopped;
         }
-        match round(alloc, seat, terms, stealers, station, kernel, &backoff) {
+        match round(rt, alloc, seat, terms, crew, station, kernel) {
             Some(ending) => return ending,
             None => {}
         }
@@ -155,13 +155,13 @@ fn work<C: Course, G: TaskGraph, Ke: Kernel, R: Wait>(
     unreachable!()
 }
 
-/// Turns the worker of a slot until it ends.
+/// Turns the worker of a slot until it ends. Then all others are woken, which may have to end too.
 pub(crate) fn serve<C: Course, G: TaskGraph, Ke: Kernel, R: Wait>(
     rt: &R,
     alloc: Global,
     table: &TaskTable<C>,
     terms: &Terms<'_, G>,
-    stealers: &[Stealer<u32>],
+    crew: &Crew,
     slot: &mut Slot<C, Ke>,
 )
     requires run { IsRun (G.graph terms.now.graph.now) C.setting }
@@ -178,9 +178,10 @@ pub(crate) fn serve<C: Course, G: TaskGraph, Ke: Kernel, R: Wait>(
         alloc,
         &mut seat,
         terms,
-        stealers,
+        crew,
         &mut slot.station,
         &mut slot.kernel,
     );
     slot.pass = Some(seat.leave());
+    crew.wake_all();
 }

@@ -2,11 +2,12 @@
 ghost use Rattle.std.specs.Prelude.{◌≡◌, ◌<◌, All, ℕ};
 ghost use Rattle.worker_pool.specs.Threads.{SameStation, either_ending, stop_of};
 
+use crate::crew::{Crew, Rest};
 use crate::pool::Stop;
 use crate::worker::{Spent, Worker};
 use core_state::Course;
 use core_steps::Hints;
-use crossbeam_deque::{Steal, Stealer, Worker as Deque};
+use crossbeam_deque::{Steal, Worker as Deque};
 use task_table::Pass;
 
 /// How a worker ended.
@@ -26,6 +27,7 @@ pub(crate) enum Ending {
 pub(crate) struct Rack {
     pub deque: Deque<u32>,
     pub posted: Hints,
+    pub rest: Rest,
     pub number: usize,
 }
 
@@ -35,6 +37,7 @@ pub(crate) struct Station {
     pub worker: Worker,
     pub deque: Deque<u32>,
     pub posted: Hints,
+    pub rest: Rest,
     pub number: usize,
 }
 
@@ -83,7 +86,7 @@ impl Ending {
 
 impl Station {
     /// The newest hint of its own, or else the oldest one of the next worker in order that has one.
-    pub(crate) fn hint(&mut self, stealers: &[Stealer<u32>]) -> Option<u32>
+    pub(crate) fn hint(&mut self, crew: &Crew) -> Option<u32>
         ensures same { SameStation self.old self.new }
     {
         if let Some(row) = self.worker.newest_hint() {
@@ -92,17 +95,28 @@ impl Station {
         if let Some(row) = self.deque.pop() {
             return Some(row);
         }
-        let count = stealers.len();
+        let count = crew.stealers.len();
         for i in 1..count {
-            if let Steal::Success(row) = stealers[(self.number % count + i) % count].steal() {
+            if let Steal::Success(row) = crew.stealers[(self.number % count + i) % count].steal() {
                 return Some(row);
             }
         }
         None
     }
 
-    /// Lets others steal the hints that the worker keeps. Those that its deque refuses it keeps.
-    pub(crate) fn share(&mut self)
+    /// Lets others steal the hints that the worker keeps, and wakes one of them where there are more than the one
+    /// that it takes itself.
+    pub(crate) fn share(&mut self, crew: &Crew)
+        ensures same { SameStation self.old self.new }
+    {
+        self.put_out();
+        if crew.has_sleeper() && self.deque.len() > 1 {
+            crew.wake_one();
+        }
+    }
+
+    // Moves the hints that the worker keeps to its deque. Those that it refuses are kept.
+    fn put_out(&mut self)
         ensures same { SameStation self.old self.new }
     {
         for _ in 0..self.worker.hints.len() {

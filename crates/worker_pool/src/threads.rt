@@ -15,6 +15,7 @@ ghost use Rattle.worker_pool.specs.Joining.{AreOf, parts_of, views_of};
 ghost use Rattle.worker_pool.specs.Pooling.{IsRun, KernelsCalled, KernelsMake};
 ghost use Rattle.worker_pool.specs.Threads.{AllTell, AreServed, EndsWell, IsOf, IsReady, IsServed, slot_view, turned};
 
+use crate::crew::Crew;
 use crate::end::{Finished, RunEnd, Why};
 use crate::joining::{Shared, begin, close};
 use crate::laws::{ended, stop_shown};
@@ -23,7 +24,7 @@ use crate::slot::{Ending, Rack, Slot, Station};
 use crate::worker::{Terms, Worker};
 use core_state::Course;
 use core_steps::Hints;
-use crossbeam_deque::{Stealer, Worker as Deque};
+use crossbeam_deque::Worker as Deque;
 use graph_model::{Cells, FaultPlan, Kernel, Record, TaskGraph};
 use std::alloc::{AllocError, Global};
 use std::marker::Brand;
@@ -43,22 +44,19 @@ struct Left<C: Course> {
     ending: Ending,
 }
 
-// So many racks with empty deques, and a stealer of each.
-fn racks(
-    alloc: Global,
-    count: usize,
-    stealers: &mut Vec<Stealer<u32>>,
-) -> Result<Vec<Rack>, AllocError>
+// So many racks with empty deques, whose workers join the crew.
+fn racks(alloc: Global, count: usize, crew: &mut Crew) -> Result<Vec<Rack>, AllocError>
     ensures count { IfOk result (λ rs. length rs.items ≡ count) }
     ensures posted { IfOk result (λ rs. All (λ r. r.posted ≡ []) rs.items) }
 {
     let mut racks = Vec::with_capacity(alloc, count)?;
     for number in 0..count {
         let deque = Deque::new_lifo(alloc, HINTS)?;
-        stealers.push(deque.stealer()?)?;
+        let rest = crew.add(alloc, &deque)?;
         racks.push(Rack {
             deque,
             posted: Hints::new(alloc)?,
+            rest,
             number,
         })?;
     }
@@ -98,6 +96,7 @@ fn fill<C: Course, Ke: Kernel>(
         let Rack {
             deque,
             posted,
+            rest,
             number,
         } = rack;
         slots.push_reserved(Slot {
@@ -106,6 +105,7 @@ fn fill<C: Course, Ke: Kernel>(
                 worker,
                 deque,
                 posted,
+                rest,
                 number,
             },
             kernel,
@@ -120,7 +120,7 @@ fn serve_all<C: Course + Send + Sync, G: TaskGraph + Sync, Ke: Kernel, R: Thread
     alloc: Global,
     table: &TaskTable<C>,
     terms: &Terms<'_, G>,
-    stealers: &[Stealer<u32>],
+    crew: &Crew,
     slots: &mut [Slot<C, Ke>],
 )
     requires run { IsRun (G.graph terms.now.graph.now) C.setting }
@@ -137,7 +137,7 @@ fn serve_all<C: Course + Send + Sync, G: TaskGraph + Sync, Ke: Kernel, R: Thread
             &|_, slot: &mut Slot<C, Ke>|
                 requires { IsRun (G.graph terms.now.graph.now) C.setting × Runs (G.graph terms.now.graph.now) terms.now.plan.now terms.now.lives C.setting × IsReady (G.graph terms.now.graph.now) C.setting table.now Ke.outcome Ke.fits slot.now }
                 ensures { IsServed C.setting table.entry.now Ke.outcome Ke.fits Ke.calls slot.entry.now slot.exit.now }
-            { serve(rt, alloc, table, terms, stealers, slot) },
+            { serve(rt, alloc, table, terms, crew, slot) },
         );
     }
 }
@@ -148,7 +148,7 @@ fn serve_slots<C: Course + Send + Sync, G: TaskGraph + Sync, Ke: Kernel, R: Thre
     alloc: Global,
     table: &TaskTable<C>,
     terms: &Terms<'_, G>,
-    stealers: &[Stealer<u32>],
+    crew: &Crew,
     slots: Vec<Slot<C, Ke>>,
 ) -> Vec<Slot<C, Ke>>
     requires run { IsRun (G.graph terms.now.graph.now) C.setting }
@@ -157,7 +157,7 @@ fn serve_slots<C: Course + Send + Sync, G: TaskGraph + Sync, Ke: Kernel, R: Thre
     ensures served { AreServed C.setting table.now Ke.outcome Ke.fits Ke.calls slots.items result.items }
 {
     let mut slots = slots;
-    serve_all(rt, alloc, table, terms, stealers, slots.as_mut_slice());
+    serve_all(rt, alloc, table, terms, crew, slots.as_mut_slice());
     slots
 }
 
@@ -232,11 +232,11 @@ fn run_workers<C: Course + Send + Sync, G: TaskGraph + Sync, Ke: Kernel, R: Thre
         workers,
     } = begin::<C, G>(alloc, terms.graph, count as u32)?;
     let mut passes = passes;
-    let mut stealers = Vec::with_capacity(alloc, count)?;
-    let racks = racks(alloc, count, &mut stealers)?;
+    let mut crew = Crew::new(alloc, count)?;
+    let racks = racks(alloc, count, &mut crew)?;
     let mut slots = Vec::with_capacity(alloc, count)?;
     fill(kernels, &mut passes, workers, racks, &mut slots);
-    let slots = serve_slots(rt, alloc, &table, terms, stealers.as_slice(), slots);
+    let slots = serve_slots(rt, alloc, &table, terms, &crew, slots);
     let ending = gather(slots, kernels, &mut passes);
     Ok(Left {
         table,
