@@ -74,6 +74,9 @@ fn whole_texts(rt: HostRuntime) -> Result<(), Fail> {
     ];
     let lines = ["run", "check", "print"];
     compare_refusals(&rt, rt.alloc(), &lines, 5, &made)?;
+    let named = format!(in rt.alloc(); "{{\"x\":1,{}", &DIAMOND[1..])?;
+    let unknown = [(named.as_str(), "bad shape at /x")];
+    compare_refusals(&rt, rt.alloc(), &lines, 5, &unknown)?;
     compare_refusals(&rt, rt.alloc(), &lines, 5, &TEXTS)?;
     // A byte that stands in no text.
     let end = answer_on(&rt, rt.alloc(), "run", &[255])?;

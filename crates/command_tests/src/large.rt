@@ -1,7 +1,7 @@
 //! Large inputs, at the limits and one above.
 
-use crate::command::{WHOLE, answer_of, compare};
-use graph_model::Text;
+use crate::command::{WHOLE, answer_of, answer_on, compare};
+use graph_model::{Cause, Key, Record, Text};
 use std::alloc::{AllocError, Global};
 use std::test::Fail;
 
@@ -44,7 +44,14 @@ impl Draft {
     }
 
     fn finish(self) -> Result<String, AllocError> {
+        self.finish_struck("")
+    }
+
+    // The faults are given as they stand in a file, with commas between them.
+    fn finish_struck(self, faults: &str) -> Result<String, AllocError> {
         let Draft { mut text, tasks: _ } = self;
+        text.push_str("],\"faults\":[")?;
+        text.push_str(faults)?;
         text.push_str("]}")?;
         Ok(text)
     }
@@ -78,7 +85,7 @@ fn many_readers(alloc: Global, count: u64) -> Result<String, AllocError> {
 }
 
 // A task that 640 others read, whose values are summed in two steps.
-fn tree_of_sums(alloc: Global) -> Result<String, AllocError> {
+fn draft_of_sums(alloc: Global) -> Result<Draft, AllocError> {
     let mut draft = Draft::new(alloc, 658)?;
     draft.add(alloc, 1, "1", &[])?;
     for key in 2..642 {
@@ -96,7 +103,24 @@ fn tree_of_sums(alloc: Global) -> Result<String, AllocError> {
         sum_formula(alloc, 16)?.as_str(),
         inputs.as_slice(),
     )?;
-    draft.finish()
+    Ok(draft)
+}
+
+fn tree_of_sums(alloc: Global) -> Result<String, AllocError> {
+    draft_of_sums(alloc)?.finish()
+}
+
+// The same with the descriptor struck of each of the 640, where it is ready.
+fn struck_sums(alloc: Global) -> Result<String, AllocError> {
+    let mut faults = String::new(alloc);
+    for key in 2..642u32 {
+        let comma = if key == 2 { "" } else { "," };
+        let fault = format!(in alloc;
+            "{comma}{{\"task\":{key},\"life\":1,\"point\":\"ready\",\"target\":\"descriptor\"}}"
+        )?;
+        faults.push_str(fault.as_str())?;
+    }
+    draft_of_sums(alloc)?.finish_struck(faults.as_str())
 }
 
 // As many tasks as a file may have, each but the first with the one before as its input.
@@ -238,6 +262,32 @@ fn runs_by_workers(rt: HostRuntime) -> Result<(), Fail> {
         WHOLE,
     )?;
     assert_eq!(rt; short.status, 10);
+    Ok(())
+}
+
+// One life more than there are strikes is enough, and just the struck tasks are replaced.
+#[test]
+fn a_strike_on_each_reader(rt: HostRuntime) -> Result<(), Fail> {
+    let alloc = rt.alloc();
+    let text = struck_sums(alloc)?;
+    for line in ["run --lives 641", "replay --lives 641"] {
+        let end = answer_on(&rt, alloc, line, text.as_str().as_bytes())?;
+        assert!(rt; end.is(0, "", "value 1280\n"), "{line}");
+        let replaced = end
+            .records
+            .iter()
+            .filter(|record| matches!(record, Record::Replaced { .. }));
+        assert_eq!(rt; replaced.count(), 640, "{line}");
+        for key in 2..642u64 {
+            let wanted = Record::Replaced {
+                key: Key(key),
+                life: 1,
+                cause: Cause::Descriptor,
+            };
+            let told = end.records.iter().filter(|record| **record == wanted);
+            assert_eq!(rt; told.count(), 1, "{line} {key}");
+        }
+    }
     Ok(())
 }
 

@@ -8,6 +8,8 @@ mod checks;
 #[cfg(test)]
 mod command;
 #[cfg(test)]
+mod cuts;
+#[cfg(test)]
 mod drills;
 #[cfg(test)]
 mod edges;
