@@ -22,5 +22,6 @@ pub mod Pigeons
 pub mod Posted
 pub mod Prepared
 pub mod Serving
+pub mod Storm
 pub mod Tables
 pub mod Turning

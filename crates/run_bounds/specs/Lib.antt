@@ -2,3 +2,4 @@ pub mod Budgets
 pub mod Calm
 pub mod Hinting
 pub mod Ledger
+pub mod Storm
