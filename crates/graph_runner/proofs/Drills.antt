@@ -1,5 +1,5 @@
 -- From the run of a number's graph to what it comes to.
-use Rattle.std.proofs.Common.{◌≡◌, ◌∙◌, ℕ, ◌+◌, ◌<◌, ◌^◌, ℤ, pos, List, [], ◌∷◌, false, Ok, Err, sym, subst, ap}
+use Rattle.std.proofs.Common.{◌≡◌, ◌∙◌, ℕ, ◌+◌, ◌<◌, ◌^◌, ℤ, pos, List, [], ◌∷◌, Ok, Err, subst}
 use Rattle.graph_model.specs.Graph.{Graph}
 use Rattle.graph_model.specs.Notes.{Note}
 use Rattle.graph_model.specs.Serial.{Outcome}
@@ -11,8 +11,11 @@ use Rattle.drill_input.proofs.Serially.{serial_sink}
 use Rattle.worker_pool.specs.declared.end.Why.{Why}
 use Rattle.graph_runner.specs.Drilling.{Drills, HoldsDrill, IsDrilled, IsDrillText}
 use Rattle.graph_runner.specs.Endings.{run_ending}
+use Rattle.graph_runner.specs.Running.{LacksRoom}
+use Rattle.graph_runner.specs.Terms.{IsNeverOver}
 use Rattle.graph_runner.specs.Workers.{IsDue, RunComes}
-use Rattle.graph_runner.proofs.Outcomes.{run_to, short}
+use Rattle.graph_runner.specs.declared.ending.Ending.TheVariants as ending
+use Rattle.graph_runner.proofs.Outcomes.{run_to, short, untold}
 
 pub drill_whole : (number : ℕ) (g : Graph) (outcome : Outcome) (plan : List Strike) (lives : ℕ) (value : List ℤ) (tasks : ℕ) (records : List Record) (news : List (List Note)) (text : List ℕ) → number < 2 ^ 32
     → HoldsDrill number plan g outcome → RunComes g outcome plan lives (Ok value) records news → IsReachedCount g tasks → IsDrillText value tasks text → IsDrilled number records news text
@@ -24,5 +27,10 @@ drill_whole number g outcome plan lives value tasks records news text small hold
     }
 
 pub drill_short : (number : ℕ) (g : Graph) (outcome : Outcome) (plan : List Strike) (reason : Why) (records : List Record) (news : List (List Note))
-    → HoldsDrill number plan g outcome → RunComes g outcome plan 65535 (Err reason) records news → IsDue false reason → Drills number records news (Err (run_ending reason))
-drill_short number g outcome plan reason records news holds comes due = short (HoldsDrill number) (λ e. ⊥) false g outcome plan 65535 reason records news holds comes due
+    → HoldsDrill number plan g outcome → RunComes g outcome plan 65535 (Err reason) records news → IsDue IsNeverOver g plan reason → Drills number records news (Err (run_ending reason))
+drill_short number g outcome plan reason records news holds comes due = short (HoldsDrill number) (λ e. e ≡ ending.OutOfMemory) IsNeverOver g outcome plan 65535 reason records news holds comes due
+
+-- room was refused for the lines
+pub drill_untold : (number : ℕ) (g : Graph) (outcome : Outcome) (plan : List Strike) (lives : ℕ) (value : List ℤ) (records : List Record) (news : List (List Note))
+    → HoldsDrill number plan g outcome → RunComes g outcome plan lives (Ok value) records news → LacksRoom (HoldsDrill number) (λ e. e ≡ ending.OutOfMemory) records news
+drill_untold number g outcome plan lives value records news holds comes = untold (HoldsDrill number) (λ e. e ≡ ending.OutOfMemory) g outcome plan lives value records news holds comes

@@ -1,5 +1,5 @@
 -- The kernels of a run are alike and can run their graph.
-use Rattle.std.proofs.Common.{◌≡◌, ◌∙◌, ℕ, ◌≤◌, ◌↔◌, ℤ, List, [], ◌∷◌, Result, length, sym, subst, ap, arith}
+use Rattle.std.proofs.Common.{◌≡◌, ◌∙◌, ℕ, ◌≤◌, ◌↔◌, ℤ, List, [], ◌∷◌, Result, sym, subst, arith}
 use Rattle.std.proofs.lemmas.List.Elements.{All-head}
 use Rattle.graph_model.specs.Graph.{Graph}
 use Rattle.graph_model.specs.Serial.{Outcome}

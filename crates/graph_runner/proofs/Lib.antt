@@ -1,5 +1,7 @@
+pub mod Alike
 pub mod Asking
 pub mod Chosen
+pub mod Completing
 pub mod Drills
 pub mod Files
 pub mod Formulas
@@ -15,5 +17,6 @@ pub mod Probes
 pub mod Products
 pub mod Serves
 pub mod Solves
+pub mod Suiting
 pub mod Taking
 pub mod Valuing

@@ -1,5 +1,7 @@
 -- From what a command makes on its way to what it makes.
-use Rattle.std.proofs.Common.{◌≡◌, ◌≢◌, ℕ, Bool, true, false, List, Option, Result, refl, subst, sym}
+use Rattle.std.proofs.Common.{◌≡◌, ◌≢◌, ◌∙◌, ℕ, Bool, false, List, Option, Result, refl, ap, subst}
+use Rattle.graph_model.specs.Graph.{Graph}
+use Rattle.graph_model.specs.declared.plan.Strike.{Strike}
 use Rattle.graph_model.specs.Notes.{Note}
 use Rattle.graph_model.specs.declared.record.Record.{Record}
 use Rattle.command_words.specs.Meaning.{Asked, asked, run, replay, paths, drill, check, print}
@@ -10,34 +12,34 @@ use Rattle.graph_runner.specs.Files.{Runs}
 use Rattle.graph_runner.specs.Loading.{Input}
 use Rattle.graph_runner.specs.Running.{IsIdle}
 use Rattle.graph_runner.specs.Solving.{Solves}
-use Rattle.graph_runner.specs.Terms.{AreTerms, HasTerms, HasTurns, by_workers, is_turned}
+use Rattle.graph_runner.specs.Terms.{AreTerms, HasTerms, HasTurns, IsNeverOver, MayBeOver, MayEnd, by_workers}
 use Rattle.graph_runner.specs.declared.ending.Ending.{Ending}
 use Rattle.graph_runner.specs.declared.terms.Pace.{Pace}
 use Rattle.graph_runner.specs.declared.terms.Pace.TheVariants.{Threads, Turns}
 use Rattle.graph_runner.specs.declared.terms.Terms.{Terms}
 
-as_said : (input : Input) (t : Terms) (turned : Bool) (workers lives : ℕ) (detail : Bool) (records : List Record) (news : List (List Note)) (made : Result (List ℕ) Ending)
-    → AreTerms t workers lives detail → is_turned t.pace ≡ turned → Runs input (is_turned t.pace) t.lives t.detail records news made → Runs input turned lives detail records news made
-as_said input t turned workers lives detail records news made are same runs =
-    subst (λ b. Runs input b lives detail records news made) same
-    (subst (λ n. Runs input (is_turned t.pace) n detail records news made) are.lives_are
-    (subst (λ b. Runs input (is_turned t.pace) t.lives b records news made) are.detail_is runs))
+as_said : (input : Input) (t : Terms) (Over : Graph → List Strike → Type 0) (workers lives : ℕ) (detail : Bool) (records : List Record) (news : List (List Note)) (made : Result (List ℕ) Ending)
+    → AreTerms t workers lives detail → MayEnd workers t.pace ≡ Over → Runs input (MayEnd t.workers t.pace) t.lives t.detail records news made → Runs input Over lives detail records news made
+as_said input t Over workers lives detail records news made are same runs =
+    subst (λ (P : Graph → List Strike → Type 0). Runs input P lives detail records news made) (ap (λ n. MayEnd n t.pace) are.workers_are ∙ same)
+    (subst (λ n. Runs input (MayEnd t.workers t.pace) n detail records news made) are.lives_are
+    (subst (λ b. Runs input (MayEnd t.workers t.pace) t.lives b records news made) are.detail_is runs))
 
-pub threads_unturned : (pace : Pace) → pace ≡ Threads → is_turned pace ≡ false
-threads_unturned pace is = subst (λ p. is_turned p ≡ false) (sym is) refl
+pub never_over : (workers : ℕ) (pace : Pace) → pace ≡ Threads → MayEnd workers pace ≡ IsNeverOver
+never_over workers pace is = ap (MayEnd workers) is
 
-turned : (pace : Pace) (schedule : List ℕ) (turns : Option ℕ) → HasTurns pace schedule turns → is_turned pace ≡ true
-turned Threads schedule turns has = absurd has
-turned (Turns named many) schedule turns has = refl
+may_be_over : (workers : ℕ) (pace : Pace) (schedule : List ℕ) (turns : Option ℕ) → HasTurns pace schedule turns → MayEnd workers pace ≡ MayBeOver workers turns
+may_be_over workers Threads schedule turns has = absurd has
+may_be_over workers (Turns named many) schedule turns has = ap (MayBeOver workers) has.1
 
 -- a file's graph by workers on its terms
 pub on_terms : (command : Command) (t : Terms) (input : Input) (records : List Record) (news : List (List Note)) (made : Result (List ℕ) Ending) → HasTerms (asked command) t
-    → ((number workers : ℕ) → command ≢ Drill number workers) → ((workers lives : ℕ) → command ≢ Paths workers lives) → Runs input (is_turned t.pace) t.lives t.detail records news made
+    → ((number workers : ℕ) → command ≢ Drill number workers) → ((workers lives : ℕ) → command ≢ Paths workers lives) → Runs input (MayEnd t.workers t.pace) t.lives t.detail records news made
     → Makes (asked command) input records news made
 on_terms (Run workers lives detail) t input records news made has no_drill no_paths runs =
-    as_said input t false workers lives detail records news made has.0 (threads_unturned t.pace has.1) runs
+    as_said input t IsNeverOver workers lives detail records news made has.0 (never_over workers t.pace has.1) runs
 on_terms (Replay workers lives detail schedule turns) t input records news made has no_drill no_paths runs =
-    as_said input t true workers lives detail records news made has.0 (turned t.pace schedule.items turns has.1) runs
+    as_said input t (MayBeOver workers turns) workers lives detail records news made has.0 (may_be_over workers t.pace schedule.items turns has.1) runs
 on_terms (Paths workers lives) t input records news made has no_drill no_paths runs = absurd (no_paths workers lives refl)
 on_terms (Drill number workers) t input records news made has no_drill no_paths runs = absurd (no_drill number workers refl)
 on_terms Check t input records news made has no_drill no_paths runs = absurd has

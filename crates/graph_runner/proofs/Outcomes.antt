@@ -1,5 +1,7 @@
 -- From what workers come to, to what the run of a graph comes to.
-use Rattle.std.proofs.Common.{◌≡◌, ℕ, ℤ, Bool, true, List, Ok, Err, subst}
+use Rattle.std.proofs.Common.{◌≡◌, ℕ, ◌≤◌, ℤ, List, [], Option, None, Some, Result, Ok, Err, inl, inr, refl, sym, subst}
+use Rattle.std.specs.Result.{IfErr}
+use Rattle.std.proofs.lemmas.Bool.{cases_lt}
 use Rattle.graph_model.specs.Graph.{Graph}
 use Rattle.graph_model.specs.Notes.{Note}
 use Rattle.graph_model.specs.Serial.{Outcome}
@@ -7,28 +9,80 @@ use Rattle.graph_model.specs.declared.key.Key.{Key}
 use Rattle.graph_model.specs.declared.record.Cause.{Cause}
 use Rattle.graph_model.specs.declared.record.Record.{Record}
 use Rattle.graph_model.specs.declared.plan.Strike.{Strike}
+use Rattle.run_bounds.specs.Budgets.{enough_turns}
 use Rattle.worker_pool.specs.Completing.{IsComplete}
-use Rattle.worker_pool.specs.Ends.{EndTells, IsFinished, IsNotShort}
+use Rattle.worker_pool.specs.Ends.{EndCalls, EndTells, IsFinished, IsNotShort, NoneMissing}
 use Rattle.worker_pool.specs.declared.end.Why.{Why}
 use Rattle.worker_pool.specs.declared.end.Why.TheVariants as why
 use Rattle.graph_runner.specs.Endings.{run_ending}
 use Rattle.graph_runner.specs.Notes.{AreRecorded}
-use Rattle.graph_runner.specs.Running.{Fails, IsCutShort, IsIdle, IsRun}
-use Rattle.graph_runner.specs.Workers.{IsDue, RunComes}
+use Rattle.graph_runner.specs.Running.{Fails, IsCutShort, IsIdle, IsRun, LacksRoom}
+use Rattle.graph_runner.specs.Running.LacksRoom.{before, within, behind}
+use Rattle.graph_runner.specs.Terms.{MayBeOver}
+use Rattle.graph_runner.specs.Workers.{IsCleared, IsDue, RunComes}
 use Rattle.graph_runner.specs.declared.ending.Ending.{Ending}
 use Rattle.graph_runner.specs.declared.ending.Ending.TheVariants.{Done, Usage, ReadFault, WriteFault, Text, Audit, Matrix, LivesSpent, ScheduleShort, OutOfMemory, TooLong}
 
--- a run by threads is not cut short by turns
-pub threads_due : (reason : Why) → IsNotShort reason → (turned : Bool) → IsDue turned reason
-threads_due why.OutOfMemory is turned = tt
-threads_due (why.LivesSpent k l c) is turned = tt
-threads_due (why.ScheduleShort pending) is turned = absurd is
+-- turns that were not over are due
+not_short : (Over : Graph → List Strike → Type 0) (g : Graph) (plan : List Strike) (reason : Why) → IsNotShort reason → IsDue Over g plan reason
+not_short Over g plan why.OutOfMemory is = tt
+not_short Over g plan (why.LivesSpent k l c) is = tt
+not_short Over g plan (why.ScheduleShort pending) is = absurd is
 
--- a run by turns may be
-pub turns_due : (reason : Why) (turned : Bool) → turned ≡ true → IsDue turned reason
-turns_due why.OutOfMemory turned is = tt
-turns_due (why.LivesSpent k l c) turned is = tt
-turns_due (why.ScheduleShort pending) turned is = is
+-- a run by threads is not cut short by turns
+pub threads_due : {T E : Type 0} (why_of : E → Why) (made : Result T E) (Over : Graph → List Strike → Type 0) (g : Graph) (plan : List Strike)
+    → IfErr made (λ r. IsNotShort (why_of r)) → IfErr made (λ r. IsDue Over g plan (why_of r))
+threads_due why_of (Ok value) Over g plan is = tt
+threads_due why_of (Err r) Over g plan is = not_short Over g plan (why_of r) is
+
+-- turns that one worker has without being told how many are enough, and those that it is told are enough or scant
+over : (given : Option ℕ) (turns : ℕ) (g : Graph) → (given ≡ None → enough_turns g ≤ turns) → ((many : ℕ) → given ≡ Some many → turns ≡ many) → (enough_turns g ≤ turns → ⊥)
+    → (workers : ℕ) (plan : List Strike) → MayBeOver workers given g plan
+over None turns g enough told short workers plan one none = short (enough refl)
+over (Some many) turns g enough told short workers plan one none = elim (cases_lt many (enough_turns g)) [
+  | inl few ↦ few
+  | inr ample ↦ absurd (short (subst (λ n. enough_turns g ≤ n) (sym (told many refl)) ample))
+]
+
+over_due : (workers : ℕ) (given : Option ℕ) (turns : ℕ) (g : Graph) (plan : List Strike) (reason : Why) → (given ≡ None → enough_turns g ≤ turns) → ((many : ℕ) → given ≡ Some many → turns ≡ many)
+    → (workers ≡ 1 → plan ≡ [] → enough_turns g ≤ turns → IsNotShort reason) → IsDue (MayBeOver workers given) g plan reason
+over_due workers given turns g plan why.OutOfMemory enough told calm = tt
+over_due workers given turns g plan (why.LivesSpent k l c) enough told calm = tt
+over_due workers given turns g plan (why.ScheduleShort pending) enough told calm = λ one none. over given turns g enough told (calm one none) workers plan one none
+
+-- a run by turns is cut short only where they may be over
+pub turns_due : {T E : Type 0} (why_of : E → Why) (made : Result T E) (workers : ℕ) (given : Option ℕ) (turns : ℕ) (g : Graph) (plan : List Strike) → (given ≡ None → enough_turns g ≤ turns)
+    → ((many : ℕ) → given ≡ Some many → turns ≡ many) → (workers ≡ 1 → plan ≡ [] → enough_turns g ≤ turns → IfErr made (λ r. IsNotShort (why_of r)))
+    → IfErr made (λ r. IsDue (MayBeOver workers given) g plan (why_of r))
+turns_due why_of (Ok value) workers given turns g plan enough told calm = tt
+turns_due why_of (Err r) workers given turns g plan enough told calm = over_due workers given turns g plan (why_of r) enough told calm
+
+-- ---- the records that are kept: all, but none where room was refused
+pub kept_tells : (g : Graph) (outcome : Outcome) (plan : List Strike) (lives : ℕ) (reason : Why) (records kept : List Record) → (NoneMissing reason → kept ≡ records)
+    → EndTells g outcome plan lives reason records → EndTells g outcome plan lives reason kept
+kept_tells g outcome plan lives why.OutOfMemory records kept same tells = tt
+kept_tells g outcome plan lives (why.LivesSpent k l c) records kept same tells = subst (λ (rs : List Record). EndTells g outcome plan lives (why.LivesSpent k l c) rs) (sym (same tt)) tells
+kept_tells g outcome plan lives (why.ScheduleShort pending) records kept same tells = subst (λ (rs : List Record). EndTells g outcome plan lives (why.ScheduleShort pending) rs) (sym (same tt)) tells
+
+pub kept_calls : (old now : List (Option (List Note))) (reason : Why) (records kept : List Record) → (NoneMissing reason → kept ≡ records) → EndCalls old now reason records → EndCalls old now reason kept
+kept_calls old now why.OutOfMemory records kept same calls = calls
+kept_calls old now (why.LivesSpent k l c) records kept same calls = subst (λ (rs : List Record). EndCalls old now (why.LivesSpent k l c) rs) (sym (same tt)) calls
+kept_calls old now (why.ScheduleShort pending) records kept same calls = subst (λ (rs : List Record). EndCalls old now (why.ScheduleShort pending) rs) (sym (same tt)) calls
+
+-- where room was refused, a run says nothing of its plan
+unanswered : (g : Graph) (plan : List Strike) (lives : ℕ) (records : List Record) → IsComplete g plan lives why.OutOfMemory records
+unanswered g plan lives records = record { landed = λ s. absurd s; some_strike = λ s. absurd s; few_lives = λ s. absurd s; answers = λ s. absurd s }
+
+pub kept_answers : (g : Graph) (plan : List Strike) (lives : ℕ) (reason : Why) (records kept : List Record) → (NoneMissing reason → kept ≡ records)
+    → IsComplete g plan lives reason records → IsComplete g plan lives reason kept
+kept_answers g plan lives why.OutOfMemory records kept same complete = unanswered g plan lives kept
+kept_answers g plan lives (why.LivesSpent k l c) records kept same complete = subst (IsComplete g plan lives (why.LivesSpent k l c)) (sym (same tt)) complete
+kept_answers g plan lives (why.ScheduleShort pending) records kept same complete = subst (IsComplete g plan lives (why.ScheduleShort pending)) (sym (same tt)) complete
+
+pub cleared : (reason : Why) (kept : List Record) → (reason ≡ why.OutOfMemory → kept ≡ []) → IsCleared (Err reason) kept
+cleared why.OutOfMemory kept none = none refl
+cleared (why.LivesSpent k l c) kept none = tt
+cleared (why.ScheduleShort pending) kept none = tt
 
 -- a run to the value
 pub run_to : (Holds : List Strike → Graph → Outcome → Type 0) (g : Graph) (outcome : Outcome) (plan : List Strike) (lives : ℕ) (value cells : List ℤ) (records : List Record) (news : List (List Note))
@@ -43,26 +97,32 @@ run_to Holds g outcome plan lives value cells records news holds comes is = reco
   noted = comes.noted tt;
 }
 
--- a run that ended without the value
-cut : (Holds : List Strike → Graph → Outcome → Type 0) (g : Graph) (outcome : Outcome) (plan : List Strike) (lives : ℕ) (reason : Why) (records : List Record) (news : List (List Note))
-    → Holds plan g outcome → EndTells g outcome plan lives reason records → IsComplete g plan lives reason records → AreRecorded news records → IsCutShort Holds lives reason records news
-cut Holds g outcome plan lives reason records news holds tells complete noted =
-    record { plan = plan; graph = g; outcome = outcome; holds = holds; tells = tells; complete = complete; noted = noted }
+-- a run to the value for whose text room was refused
+pub untold : (Holds : List Strike → Graph → Outcome → Type 0) (Refuses : Ending → Type 0) (g : Graph) (outcome : Outcome) (plan : List Strike) (lives : ℕ) (value : List ℤ) (records : List Record) (news : List (List Note))
+    → Holds plan g outcome → RunComes g outcome plan lives (Ok value) records news → LacksRoom Holds Refuses records news
+untold Holds Refuses g outcome plan lives value records news holds comes = behind value (run_to Holds g outcome plan lives value value records news holds comes refl)
 
-pub short : (Holds : List Strike → Graph → Outcome → Type 0) (Refuses : Ending → Type 0) (turned : Bool) (g : Graph) (outcome : Outcome) (plan : List Strike) (lives : ℕ) (reason : Why) (records : List Record) (news : List (List Note))
-    → Holds plan g outcome → RunComes g outcome plan lives (Err reason) records news → IsDue turned reason → Fails Holds Refuses turned lives records news (run_ending reason)
-short Holds Refuses turned g outcome plan lives why.OutOfMemory records news holds comes due = tt
-short Holds Refuses turned g outcome plan lives (why.LivesSpent k l c) records news holds comes due =
-    cut Holds g outcome plan lives (why.LivesSpent k l c) records news holds comes.tells comes.answers (comes.noted tt)
-short Holds Refuses turned g outcome plan lives (why.ScheduleShort pending) records news holds comes due =
-    (due, cut Holds g outcome plan lives (why.ScheduleShort pending) records news holds comes.tells comes.answers (comes.noted tt))
+-- a run that ended without the value
+cut : (Holds : List Strike → Graph → Outcome → Type 0) (Over : Graph → List Strike → Type 0) (g : Graph) (outcome : Outcome) (plan : List Strike) (lives : ℕ) (reason : Why) (records : List Record) (news : List (List Note))
+    → Holds plan g outcome → EndTells g outcome plan lives reason records → IsComplete g plan lives reason records → AreRecorded news records → IsDue Over g plan reason → IsCutShort Holds Over lives reason records news
+cut Holds Over g outcome plan lives reason records news holds tells complete noted due =
+    record { plan = plan; graph = g; outcome = outcome; holds = holds; tells = tells; complete = complete; noted = noted; due = due }
+
+pub short : (Holds : List Strike → Graph → Outcome → Type 0) (Refuses : Ending → Type 0) (Over : Graph → List Strike → Type 0) (g : Graph) (outcome : Outcome) (plan : List Strike) (lives : ℕ) (reason : Why) (records : List Record) (news : List (List Note))
+    → Holds plan g outcome → RunComes g outcome plan lives (Err reason) records news → IsDue Over g plan reason → Fails Holds Refuses Over lives records news (run_ending reason)
+short Holds Refuses Over g outcome plan lives why.OutOfMemory records news holds comes due = within plan g outcome holds comes.cleared
+short Holds Refuses Over g outcome plan lives (why.LivesSpent k l c) records news holds comes due =
+    cut Holds Over g outcome plan lives (why.LivesSpent k l c) records news holds comes.tells comes.answers (comes.noted tt) due
+short Holds Refuses Over g outcome plan lives (why.ScheduleShort pending) records news holds comes due =
+    cut Holds Over g outcome plan lives (why.ScheduleShort pending) records news holds comes.tells comes.answers (comes.noted tt) due
 
 -- a run for which room was refused
-pub unrun : (g : Graph) (outcome : Outcome) (plan : List Strike) (lives : ℕ) (records : List Record) (news : List (List Note)) → RunComes g outcome plan lives (Err why.OutOfMemory) records news
-unrun g outcome plan lives records news = record {
+pub unrun : (g : Graph) (outcome : Outcome) (plan : List Strike) (lives : ℕ) (records : List Record) (news : List (List Note)) → records ≡ [] → RunComes g outcome plan lives (Err why.OutOfMemory) records news
+unrun g outcome plan lives records news none = record {
   tells = tt;
-  answers = record { landed = λ s. absurd s; some_strike = λ s. absurd s; few_lives = λ s. absurd s; answers = λ s. absurd s };
-  noted = λ none. absurd none;
+  answers = unanswered g plan lives records;
+  noted = λ missing. absurd missing;
+  cleared = none;
 }
 
 -- what is told of a source is none of the ends of a run
@@ -74,16 +134,16 @@ pub record IsRefusal (Refuses : Ending → Type 0) : Type 0 where
   pub no_short : (pending : ℕ) → Refuses (ScheduleShort pending) → ⊥
 
 -- there was nothing to be run
-pub refused : (Holds : List Strike → Graph → Outcome → Type 0) (Refuses : Ending → Type 0) (turned : Bool) (lives : ℕ) (records : List Record) (news : List (List Note)) (e : Ending)
-    → IsRefusal Refuses → Refuses e → IsIdle records news → Fails Holds Refuses turned lives records news e
-refused Holds Refuses turned lives records news ReadFault is fails idle = (fails, idle)
-refused Holds Refuses turned lives records news TooLong is fails idle = (fails, idle)
-refused Holds Refuses turned lives records news (Text fault) is fails idle = (fails, idle)
-refused Holds Refuses turned lives records news (Audit fault) is fails idle = (fails, idle)
-refused Holds Refuses turned lives records news (Matrix fault) is fails idle = (fails, idle)
-refused Holds Refuses turned lives records news OutOfMemory is fails idle = tt
-refused Holds Refuses turned lives records news Done is fails idle = absurd (is.no_done fails)
-refused Holds Refuses turned lives records news Usage is fails idle = absurd (is.no_usage fails)
-refused Holds Refuses turned lives records news WriteFault is fails idle = absurd (is.no_write fails)
-refused Holds Refuses turned lives records news (LivesSpent k l c) is fails idle = absurd (is.no_spent k l c fails)
-refused Holds Refuses turned lives records news (ScheduleShort pending) is fails idle = absurd (is.no_short pending fails)
+pub refused : (Holds : List Strike → Graph → Outcome → Type 0) (Refuses : Ending → Type 0) (Over : Graph → List Strike → Type 0) (lives : ℕ) (records : List Record) (news : List (List Note)) (e : Ending)
+    → IsRefusal Refuses → Refuses e → IsIdle records news → Fails Holds Refuses Over lives records news e
+refused Holds Refuses Over lives records news ReadFault is fails idle = (fails, idle)
+refused Holds Refuses Over lives records news TooLong is fails idle = (fails, idle)
+refused Holds Refuses Over lives records news (Text fault) is fails idle = (fails, idle)
+refused Holds Refuses Over lives records news (Audit fault) is fails idle = (fails, idle)
+refused Holds Refuses Over lives records news (Matrix fault) is fails idle = (fails, idle)
+refused Holds Refuses Over lives records news OutOfMemory is fails idle = before fails idle
+refused Holds Refuses Over lives records news Done is fails idle = absurd (is.no_done fails)
+refused Holds Refuses Over lives records news Usage is fails idle = absurd (is.no_usage fails)
+refused Holds Refuses Over lives records news WriteFault is fails idle = absurd (is.no_write fails)
+refused Holds Refuses Over lives records news (LivesSpent k l c) is fails idle = absurd (is.no_spent k l c fails)
+refused Holds Refuses Over lives records news (ScheduleShort pending) is fails idle = absurd (is.no_short pending fails)

@@ -1,11 +1,9 @@
 -- From the run of a matrix's graph to what it comes to.
-use Rattle.std.proofs.Common.{◌≡◌, ◌∙◌, ℕ, ℤ, ◌*◌, List, length, false, Ok, Err, refl, sym, subst, ap}
+use Rattle.std.proofs.Common.{◌≡◌, ◌∙◌, ℕ, ℤ, ◌*◌, List, length, Ok, Err, refl, ap}
 use Rattle.graph_model.specs.Notes.{Note}
-use Rattle.graph_model.specs.Serial.{serial}
 use Rattle.graph_model.specs.declared.record.Record.{Record}
 use Rattle.graph_model.specs.declared.plan.Strike.{Strike}
 use Rattle.path_tasks.specs.Paths.{tiles_of}
-use Rattle.apsp_graph.specs.Answers.{answer_text}
 use Rattle.apsp_graph.specs.Blocked.{closure}
 use Rattle.apsp_graph.specs.Kernels.{path_outcome, FitsPath}
 use Rattle.apsp_graph.specs.Reading.{Fails as FailsReading, reading}
@@ -20,12 +18,14 @@ use Rattle.worker_pool.specs.Calling.{CanRun}
 use Rattle.worker_pool.specs.declared.end.Why.{Why}
 use Rattle.graph_runner.specs.Endings.{matrix_ending, run_ending}
 use Rattle.graph_runner.specs.Loading.{Input, Gave, FailsToTake}
-use Rattle.graph_runner.specs.Running.{IsIdle}
+use Rattle.graph_runner.specs.Running.{IsIdle, LacksRoom}
+use Rattle.graph_runner.specs.Terms.{IsNeverOver}
 use Rattle.graph_runner.specs.Solving.{FailsToRead, HoldsMatrix, HoldsText, IsRead, IsSolved, IsUnreadable, Solves}
 use Rattle.graph_runner.specs.Workers.{IsDue, RunComes}
 use Rattle.graph_runner.specs.declared.ending.Ending.{Ending}
 use Rattle.graph_runner.specs.declared.ending.Ending.TheVariants.{Done, Usage, ReadFault, WriteFault, Text, Audit, Matrix, LivesSpent, ScheduleShort, OutOfMemory, TooLong}
-use Rattle.graph_runner.proofs.Outcomes.{IsRefusal, refused, run_to, short}
+use Rattle.graph_runner.proofs.Loads.{stopped}
+use Rattle.graph_runner.proofs.Outcomes.{IsRefusal, refused, run_to, short, untold}
 
 -- the serial inputs of each task fit the kernel, and its value has as many cells as its block
 pub can_solve : (g : PathGraph) → CanRun (graph g) (path_outcome g) (FitsPath g)
@@ -37,7 +37,7 @@ can_solve g = record { inputs = inputs_fit g; cells = value_cells g }
 pub untaken : (input : Input) (e : Ending) → FailsToTake input e → FailsToRead input e
 untaken input ReadFault fails = fails
 untaken input TooLong fails = fails
-untaken input OutOfMemory fails = tt
+untaken input OutOfMemory fails = fails
 untaken input Done fails = absurd fails
 untaken input Usage fails = absurd fails
 untaken input WriteFault fails = absurd fails
@@ -51,7 +51,7 @@ unreadable : (input : Input) (bytes : List ℕ) (fault : MatrixFault) → Gave i
 unreadable input bytes fault gave first memory = record { bytes = bytes; gave = gave; memory = memory; first = first }
 
 pub failed_matrix : (input : Input) (bytes : List ℕ) (fault : MatrixFault) → Gave input bytes → FailsReading fault (reading bytes) → FailsToRead input (matrix_ending fault)
-failed_matrix input bytes matrix.OutOfMemory gave fails = tt
+failed_matrix input bytes matrix.OutOfMemory gave fails = stopped input bytes gave
 failed_matrix input bytes matrix.Head gave fails = unreadable input bytes matrix.Head gave fails (λ e. cc)
 failed_matrix input bytes matrix.Size gave fails = unreadable input bytes matrix.Size gave fails (λ e. cc)
 failed_matrix input bytes (matrix.Line line) gave fails = unreadable input bytes (matrix.Line line) gave fails (λ e. cc)
@@ -61,6 +61,9 @@ failed_matrix input bytes (matrix.Fault line) gave fails = unreadable input byte
 -- ---- running
 holds_matrix : (input : Input) (g : PathGraph) (plan : List Strike) → IsRead input (matrix_of g plan) → HoldsMatrix input (matrix_of g plan) plan (graph g) (path_outcome g)
 holds_matrix input g plan read = record { read = read; strikes = refl; is = refl; makes = refl }
+
+holds_text : (input : Input) (g : PathGraph) (plan : List Strike) → IsRead input (matrix_of g plan) → HoldsText input plan (graph g) (path_outcome g)
+holds_text input g plan read = record { matrix = matrix_of g plan; holds = holds_matrix input g plan read }
 
 -- the value is the tiles after all rounds, and has a cell for each of the sink's block
 value_is : (g : PathGraph) (plan : List Strike) (lives : ℕ) (value : List ℤ) (records : List Record) (news : List (List Note))
@@ -82,15 +85,21 @@ solved input g plan lives value records news text read comes says = record {
   says = answer_is g plan value text comes.tells.value_is says;
 }
 
+-- a run to the value, for whose text room was refused
+pub unsolved : (input : Input) (g : PathGraph) (plan : List Strike) (lives : ℕ) (value : List ℤ) (records : List Record) (news : List (List Note))
+    → IsRead input (matrix_of g plan) → RunComes (graph g) (path_outcome g) plan lives (Ok value) records news → LacksRoom (HoldsText input) (FailsToRead input) records news
+unsolved input g plan lives value records news read comes =
+    untold (HoldsText input) (FailsToRead input) (graph g) (path_outcome g) plan lives value records news (holds_text input g plan read) comes
+
 -- a run that ended without the value
 pub solve_short : (input : Input) (g : PathGraph) (plan : List Strike) (lives : ℕ) (reason : Why) (records : List Record) (news : List (List Note)) → IsRead input (matrix_of g plan)
-    → RunComes (graph g) (path_outcome g) plan lives (Err reason) records news → IsDue false reason → Solves input lives records news (Err (run_ending reason))
+    → RunComes (graph g) (path_outcome g) plan lives (Err reason) records news → IsDue IsNeverOver (graph g) plan reason → Solves input lives records news (Err (run_ending reason))
 solve_short input g plan lives reason records news read comes due =
-    short (HoldsText input) (FailsToRead input) false (graph g) (path_outcome g) plan lives reason records news (record { matrix = matrix_of g plan; holds = holds_matrix input g plan read }) comes due
+    short (HoldsText input) (FailsToRead input) IsNeverOver (graph g) (path_outcome g) plan lives reason records news (holds_text input g plan read) comes due
 
 refuses : (input : Input) → IsRefusal (FailsToRead input)
 refuses input = record { no_done = λ f. f; no_usage = λ f. f; no_write = λ f. f; no_spent = λ k l c f. f; no_short = λ pending f. f }
 
 -- no matrix was read
 pub solve_fails : (input : Input) (lives : ℕ) (records : List Record) (news : List (List Note)) (e : Ending) → FailsToRead input e → IsIdle records news → Solves input lives records news (Err e)
-solve_fails input lives records news e fails idle = refused (HoldsText input) (FailsToRead input) false lives records news e (refuses input) fails idle
+solve_fails input lives records news e fails idle = refused (HoldsText input) (FailsToRead input) IsNeverOver lives records news e (refuses input) fails idle

@@ -1,5 +1,5 @@
 -- What the words of a command come to.
-use Rattle.std.specs.Prelude.{◌≡◌, ℕ, true, false, List, Result, Err}
+use Rattle.std.specs.Prelude.{◌≡◌, ℕ, List, Result, Err}
 use Rattle.graph_model.specs.Notes.{Note}
 use Rattle.graph_model.specs.declared.record.Record.{Record}
 use Rattle.command_words.specs.Meaning.{Asked, run, replay, paths, drill, check, print, StandsFor, StandsForNone}
@@ -9,6 +9,7 @@ use Rattle.graph_runner.specs.Files.{Runs}
 use Rattle.graph_runner.specs.Running.{IsIdle}
 use Rattle.graph_runner.specs.Serving.{Checks, Prints}
 use Rattle.graph_runner.specs.Solving.{Solves}
+use Rattle.graph_runner.specs.Terms.{IsNeverOver, MayBeOver}
 use Rattle.graph_runner.specs.Writing.{Output, Finishes}
 use Rattle.graph_runner.specs.declared.ending.Ending.{Ending}
 use Rattle.graph_runner.specs.declared.ending.Ending.TheVariants as ending
@@ -32,10 +33,11 @@ Shows (replay workers lives detail schedule turns) input made = IsMisuse input m
 Shows (paths workers lives) input made = IsMisuse input made
 Shows (drill number workers) input made = IsMisuse input made
 
--- What a command makes of its words and the source. `run` and `paths` have a thread for each worker, and so has `drill`, which reads nothing; `replay` has turns, which may be over.
+-- What a command makes of its words and the source. `run` and `paths` have a thread for each worker, and so has `drill`, which reads nothing; `replay` has turns, which may be over, but with one worker and
+-- an empty plan only where they are given and scant.
 abbrev pub Makes : Asked → Input → List Record → List (List Note) → Result (List ℕ) Ending → Type 0
-Makes (run workers lives detail) input records news made = Runs input false lives detail records news made
-Makes (replay workers lives detail schedule turns) input records news made = Runs input true lives detail records news made
+Makes (run workers lives detail) input records news made = Runs input IsNeverOver lives detail records news made
+Makes (replay workers lives detail schedule turns) input records news made = Runs input (MayBeOver workers turns) lives detail records news made
 Makes (paths workers lives) input records news made = Solves input lives records news made
 Makes (drill number workers) input records news made = IsUnread input × Drills number records news made
 Makes check input records news made = Checks input made × IsIdle records news

@@ -10,7 +10,9 @@ use Rattle.drill_input.specs.Drill.{drill_strikes}
 use Rattle.drill_input.specs.Values.{IsDrill}
 use Rattle.graph_runner.specs.Running.{Fails, IsRun}
 use Rattle.graph_runner.specs.Serving.{line_of}
+use Rattle.graph_runner.specs.Terms.{IsNeverOver}
 use Rattle.graph_runner.specs.declared.ending.Ending.{Ending}
+use Rattle.graph_runner.specs.declared.ending.Ending.TheVariants as ending
 
 -- the graph of tasks that the number stands for, and what a kernel makes of each, with its strikes
 pub record HoldsDrill (number : ℕ) (plan : List Strike) (g : Graph) (outcome : Outcome) : Type 0 where
@@ -28,7 +30,7 @@ pub record IsDrilled (number : ℕ) (records : List Record) (news : List (List N
   pub ran : IsRun (HoldsDrill number) (pos (number + 8256) ∷ []) records news
   pub says : IsDrillText (pos (number + 8256) ∷ []) 8257 text
 
--- what workers make of a number
+-- what workers make of a number, whose graph is refused for want of memory alone
 abbrev pub Drills : ℕ → List Record → List (List Note) → Result (List ℕ) Ending → Type 0
 Drills number records news (Ok text) = IsDrilled number records news text
-Drills number records news (Err ending) = Fails (HoldsDrill number) (λ e. ⊥) false 65535 records news ending
+Drills number records news (Err reason) = Fails (HoldsDrill number) (λ e. e ≡ ending.OutOfMemory) IsNeverOver 65535 records news reason

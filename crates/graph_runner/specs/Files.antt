@@ -47,7 +47,7 @@ pub record IsReported (input : Input) (detail : Bool) (records : List Record) (n
   pub ran : IsRun (HoldsGraph input raw) (value raw.sink.0 ∷ []) records news
   pub says : IsReport (value raw.sink.0 ∷ []) records detail text
 
--- what workers make of the source, whose turns, if any, may be over, and where no life above this one is allowed
-abbrev pub Runs : Input → Bool → ℕ → Bool → List Record → List (List Note) → Result (List ℕ) Ending → Type 0
-Runs input turned lives detail records news (Ok text) = IsReported input detail records news text
-Runs input turned lives detail records news (Err ending) = Fails (HoldsFile input) (FailsToAccept input) turned lives records news ending
+-- what workers make of the source, where their turns may be over as told, and where no life above this one is allowed
+abbrev pub Runs : Input → (Graph → List Strike → Type 0) → ℕ → Bool → List Record → List (List Note) → Result (List ℕ) Ending → Type 0
+Runs input Over lives detail records news (Ok text) = IsReported input detail records news text
+Runs input Over lives detail records news (Err ending) = Fails (HoldsFile input) (FailsToAccept input) Over lives records news ending

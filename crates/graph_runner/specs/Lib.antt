@@ -1,5 +1,6 @@
 pub mod Accepting
 pub mod Commands
+pub mod Complete
 pub mod Drilling
 pub mod Endings
 pub mod Files

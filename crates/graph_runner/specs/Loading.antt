@@ -49,6 +49,12 @@ pub record IsCutOff (input : Input) : Type 0 where
   pub few : length bytes ≤ input_limit
   pub rose : Rose input.faults input.faults_after
 
+-- room was refused, within the limit
+pub record IsStopped (input : Input) : Type 0 where
+  pub bytes : List ℕ
+  pub took : Took input.left input.left_after bytes
+  pub few : length bytes ≤ input_limit
+
 -- more bytes came than are read
 pub record IsFlooded (input : Input) : Type 0 where
   pub bytes : List ℕ
@@ -59,7 +65,7 @@ pub record IsFlooded (input : Input) : Type 0 where
 abbrev pub FailsToTake : Input → Ending → Type 0
 FailsToTake input ReadFault = IsCutOff input
 FailsToTake input TooLong = IsFlooded input
-FailsToTake input OutOfMemory = Unit {0}
+FailsToTake input OutOfMemory = IsStopped input
 FailsToTake input Done = ⊥
 FailsToTake input Usage = ⊥
 FailsToTake input WriteFault = ⊥
@@ -78,7 +84,7 @@ abbrev pub FailsToLoad : Input → Ending → Type 0
 FailsToLoad input ReadFault = FailsToTake input ReadFault
 FailsToLoad input TooLong = FailsToTake input TooLong
 FailsToLoad input (Text fault) = IsNoFile input fault
-FailsToLoad input OutOfMemory = Unit {0}
+FailsToLoad input OutOfMemory = FailsToTake input OutOfMemory
 FailsToLoad input Done = ⊥
 FailsToLoad input Usage = ⊥
 FailsToLoad input WriteFault = ⊥

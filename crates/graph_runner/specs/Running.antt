@@ -1,5 +1,5 @@
 -- What the run of a graph by workers comes to.
-use Rattle.std.specs.Prelude.{◌≡◌, ℕ, ℤ, Bool, true, List, []}
+use Rattle.std.specs.Prelude.{◌≡◌, ℕ, ℤ, List, []}
 use Rattle.graph_model.specs.Graph.{Graph}
 use Rattle.graph_model.specs.Notes.{Note}
 use Rattle.graph_model.specs.Serial.{Outcome}
@@ -11,6 +11,7 @@ use Rattle.worker_pool.specs.Ends.{EndTells, IsFinished}
 use Rattle.worker_pool.specs.declared.end.Why.{Why}
 use Rattle.worker_pool.specs.declared.end.Why.TheVariants as why
 use Rattle.graph_runner.specs.Notes.{AreRecorded}
+use Rattle.graph_runner.specs.Workers.{IsDue}
 use Rattle.graph_runner.specs.declared.ending.Ending.{Ending}
 use Rattle.graph_runner.specs.declared.ending.Ending.TheVariants.{Done, Usage, ReadFault, WriteFault, Text, Audit, Matrix, LivesSpent, ScheduleShort, OutOfMemory, TooLong}
 
@@ -26,14 +27,15 @@ pub record IsRun (Holds : List Strike → Graph → Outcome → Type 0) (value :
   pub answers : AnswersPlan graph plan records
   pub noted : AreRecorded news records
 
--- the run ended without the value, for this reason, which its records show; none of them is missing
-pub record IsCutShort (Holds : List Strike → Graph → Outcome → Type 0) (lives : ℕ) (reason : Why) (records : List Record) (news : List (List Note)) : Type 0 where
+-- the run ended without the value, for this reason, which its records show; none of them is missing, and its turns, if it had any, were over only where they may be
+pub record IsCutShort (Holds : List Strike → Graph → Outcome → Type 0) (Over : Graph → List Strike → Type 0) (lives : ℕ) (reason : Why) (records : List Record) (news : List (List Note)) : Type 0 where
   pub plan : List Strike
   pub graph : Graph
   pub outcome : Outcome
   pub holds : Holds plan graph outcome
   pub tells : EndTells graph outcome plan lives reason records
   pub complete : IsComplete graph plan lives reason records
+  pub due : IsDue Over graph plan reason
   pub noted : AreRecorded news records
 
 -- no task was computed
@@ -41,16 +43,22 @@ pub record IsIdle (records : List Record) (news : List (List Note)) : Type 0 whe
   pub unrecorded : records ≡ []
   pub untold : all_calls news ≡ []
 
--- why there is no value of a graph, where no life above this one is allowed: the run was cut short, by its turns only where there are some; or, as told, there was nothing to be run, and nothing was
-abbrev pub Fails : (List Strike → Graph → Outcome → Type 0) → (Ending → Type 0) → Bool → ℕ → List Record → List (List Note) → Ending → Type 0
-Fails Holds Refuses turned lives records news (LivesSpent k l c) = IsCutShort Holds lives (why.LivesSpent k l c) records news
-Fails Holds Refuses turned lives records news (ScheduleShort pending) = (turned ≡ true) × IsCutShort Holds lives (why.ScheduleShort pending) records news
-Fails Holds Refuses turned lives records news OutOfMemory = Unit {0}
-Fails Holds Refuses turned lives records news ReadFault = Refuses ReadFault × IsIdle records news
-Fails Holds Refuses turned lives records news TooLong = Refuses TooLong × IsIdle records news
-Fails Holds Refuses turned lives records news (Text fault) = Refuses (Text fault) × IsIdle records news
-Fails Holds Refuses turned lives records news (Audit fault) = Refuses (Audit fault) × IsIdle records news
-Fails Holds Refuses turned lives records news (Matrix fault) = Refuses (Matrix fault) × IsIdle records news
-Fails Holds Refuses turned lives records news Done = ⊥
-Fails Holds Refuses turned lives records news Usage = ⊥
-Fails Holds Refuses turned lives records news WriteFault = ⊥
+-- Room was refused. Before a run nothing was computed; a run that was refused room leaves no records; behind a run to the serial value, room for its text was.
+pub data LacksRoom (Holds : List Strike → Graph → Outcome → Type 0) (Refuses : Ending → Type 0) (records : List Record) (news : List (List Note)) : Type 0 where
+  before : Refuses OutOfMemory → IsIdle records news → LacksRoom Holds Refuses records news
+  within : (plan : List Strike) (graph : Graph) (outcome : Outcome) → Holds plan graph outcome → records ≡ [] → LacksRoom Holds Refuses records news
+  behind : (value : List ℤ) → IsRun Holds value records news → LacksRoom Holds Refuses records news
+
+-- why there is no value of a graph, where no life above this one is allowed: the run was cut short, by its turns only where they may be over; or, as told, there was nothing to be run, and nothing was
+abbrev pub Fails : (List Strike → Graph → Outcome → Type 0) → (Ending → Type 0) → (Graph → List Strike → Type 0) → ℕ → List Record → List (List Note) → Ending → Type 0
+Fails Holds Refuses Over lives records news (LivesSpent k l c) = IsCutShort Holds Over lives (why.LivesSpent k l c) records news
+Fails Holds Refuses Over lives records news (ScheduleShort pending) = IsCutShort Holds Over lives (why.ScheduleShort pending) records news
+Fails Holds Refuses Over lives records news OutOfMemory = LacksRoom Holds Refuses records news
+Fails Holds Refuses Over lives records news ReadFault = Refuses ReadFault × IsIdle records news
+Fails Holds Refuses Over lives records news TooLong = Refuses TooLong × IsIdle records news
+Fails Holds Refuses Over lives records news (Text fault) = Refuses (Text fault) × IsIdle records news
+Fails Holds Refuses Over lives records news (Audit fault) = Refuses (Audit fault) × IsIdle records news
+Fails Holds Refuses Over lives records news (Matrix fault) = Refuses (Matrix fault) × IsIdle records news
+Fails Holds Refuses Over lives records news Done = ⊥
+Fails Holds Refuses Over lives records news Usage = ⊥
+Fails Holds Refuses Over lives records news WriteFault = ⊥

@@ -1,5 +1,5 @@
 -- The matrix of a source, whose blocked paths are run by workers.
-use Rattle.std.specs.Prelude.{◌≡◌, ◌≢◌, ℕ, ℤ, false, List, Result, Ok, Err}
+use Rattle.std.specs.Prelude.{◌≡◌, ◌≢◌, ℕ, List, Result, Ok, Err}
 use Rattle.graph_model.specs.Graph.{Graph}
 use Rattle.graph_model.specs.Notes.{Note}
 use Rattle.graph_model.specs.Serial.{Outcome}
@@ -18,6 +18,7 @@ use Rattle.apsp_graph.specs.declared.graph.PathGraph.{PathGraph}
 use Rattle.walks.specs.Walks.{HasLeast}
 use Rattle.graph_runner.specs.Loading.{Input, Gave, FailsToTake}
 use Rattle.graph_runner.specs.Running.{Fails, IsRun}
+use Rattle.graph_runner.specs.Terms.{IsNeverOver}
 use Rattle.graph_runner.specs.declared.ending.Ending.{Ending}
 use Rattle.graph_runner.specs.declared.ending.Ending.TheVariants.{Done, Usage, ReadFault, WriteFault, Text, Audit, Matrix as NoMatrix, LivesSpent, ScheduleShort, OutOfMemory, TooLong}
 
@@ -39,7 +40,7 @@ abbrev pub FailsToRead : Input → Ending → Type 0
 FailsToRead input (NoMatrix fault) = IsUnreadable input fault
 FailsToRead input ReadFault = FailsToTake input ReadFault
 FailsToRead input TooLong = FailsToTake input TooLong
-FailsToRead input OutOfMemory = Unit {0}
+FailsToRead input OutOfMemory = FailsToTake input OutOfMemory
 FailsToRead input Done = ⊥
 FailsToRead input Usage = ⊥
 FailsToRead input WriteFault = ⊥
@@ -79,4 +80,4 @@ pub record IsSolved (input : Input) (records : List Record) (news : List (List N
 -- what workers make of the source's matrix, where no life above this one is allowed
 abbrev pub Solves : Input → ℕ → List Record → List (List Note) → Result (List ℕ) Ending → Type 0
 Solves input lives records news (Ok text) = IsSolved input records news text
-Solves input lives records news (Err ending) = Fails (HoldsText input) (FailsToRead input) false lives records news ending
+Solves input lives records news (Err ending) = Fails (HoldsText input) (FailsToRead input) IsNeverOver lives records news ending

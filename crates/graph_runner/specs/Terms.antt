@@ -1,6 +1,8 @@
 -- On what terms a graph is run by workers.
-use Rattle.std.specs.Prelude.{◌≡◌, ◌≢◌, ℕ, ◌+◌, ◌*◌, ◌-◌, ◌^◌, ◌<◌, ◌≤◌, min, max, Bool, true, false, List, [], ◌∷◌, length, sum_by, All, Option, None, Some}
+use Rattle.std.specs.Prelude.{◌≡◌, ◌≢◌, ℕ, ◌+◌, ◌*◌, ◌-◌, ◌^◌, ◌<◌, ◌≤◌, min, max, Bool, true, false, List, [], length, All, Option, None, Some}
 use Rattle.graph_model.specs.Graph.{Graph}
+use Rattle.graph_model.specs.declared.plan.Strike.{Strike}
+use Rattle.run_bounds.specs.Budgets.{enough_turns}
 use Rattle.command_words.specs.Meaning.{Asked, run, replay, paths, drill, check, print}
 use Rattle.graph_runner.specs.declared.terms.Terms.{Terms}
 use Rattle.graph_runner.specs.declared.terms.Pace.{Pace}
@@ -14,11 +16,6 @@ by_workers (paths workers lives) = true
 by_workers (drill number workers) = true
 by_workers check = false
 by_workers print = false
-
--- whether there are turns, which may be over
-abbrev pub is_turned : Pace → Bool
-is_turned Threads = false
-is_turned (Turns schedule turns) = true
 
 -- the workers take turns: this schedule, and so many turns, or as many as schedule, plan and graph decide
 abbrev pub HasTurns : Pace → List ℕ → Option ℕ → Type 0
@@ -53,10 +50,6 @@ pub record AreWithin (t : Terms) : Type 0 where
 
 -- ---- how many turns there are
 
--- how many predecessor places all tasks have together
-abbrev pub places_in : Graph → ℕ
-places_in g = sum_by (λ k. length (g.preds k)) g.keys
-
 -- for any workers, by the lengths of schedule and plan, the tasks and their places; at least a million, and at most what a counter holds
 abbrev pub ample_turns : ℕ → ℕ → ℕ → ℕ → ℕ
 ample_turns schedule plan tasks places =
@@ -66,3 +59,23 @@ ample_turns schedule plan tasks places =
 abbrev pub turn_count : Option ℕ → ℕ → ℕ → ℕ → ℕ → ℕ
 turn_count (Some turns) schedule plan tasks places = turns
 turn_count None schedule plan tasks places = ample_turns schedule plan tasks places
+
+-- ---- where they may be over
+
+-- turns are given, and are fewer than one worker needs that makes no strike
+abbrev pub AreScant : Option ℕ → Graph → Type 0
+AreScant None g = ⊥
+AreScant (Some turns) g = turns < enough_turns g
+
+-- the turns of so many workers may be over; of one worker with an empty plan only where they are scant
+abbrev pub MayBeOver : ℕ → Option ℕ → Graph → List Strike → Type 0
+MayBeOver workers turns g strikes = workers ≡ 1 → strikes ≡ [] → AreScant turns g
+
+-- there are no turns, so they are never over
+abbrev pub IsNeverOver : Graph → List Strike → Type 0
+IsNeverOver g strikes = ⊥
+
+-- the same by the pace
+abbrev pub MayEnd : ℕ → Pace → Graph → List Strike → Type 0
+MayEnd workers Threads g strikes = IsNeverOver g strikes
+MayEnd workers (Turns schedule turns) g strikes = MayBeOver workers turns g strikes

@@ -1,5 +1,5 @@
 -- The kernels of a run by workers, and what the run comes to.
-use Rattle.std.specs.Prelude.{◌≡◌, ◌↔◌, ℕ, ℤ, Bool, true, List, length, All, Result, Ok, Err}
+use Rattle.std.specs.Prelude.{◌≡◌, ◌↔◌, ℕ, ℤ, List, [], length, All, Result, Ok, Err}
 use Rattle.graph_model.specs.Graph.{Graph}
 use Rattle.graph_model.specs.Notes.{Note}
 use Rattle.graph_model.specs.Serial.{Outcome}
@@ -17,11 +17,18 @@ pub record AreKernels {K : Type 0} (makes : Outcome) (takes : ℕ → List (List
   pub same_makes : All (λ a. outcome a ≡ makes) kernels
   pub same_takes : All (λ a. (k : ℕ) (lists : List (List ℤ)) → fits a k lists ↔ takes k lists) kernels
 
--- turns are over only where there are turns
-abbrev pub IsDue : Bool → Why → Type 0
-IsDue turned why.OutOfMemory = Unit {0}
-IsDue turned (why.LivesSpent k l c) = Unit {0}
-IsDue turned (why.ScheduleShort pending) = turned ≡ true
+-- turns are over only where they may be
+abbrev pub IsDue : (Graph → List Strike → Type 0) → Graph → List Strike → Why → Type 0
+IsDue Over g strikes why.OutOfMemory = Unit {0}
+IsDue Over g strikes (why.LivesSpent k l c) = Unit {0}
+IsDue Over g strikes (why.ScheduleShort pending) = Over g strikes
+
+-- where room was refused, no record is left
+abbrev pub IsCleared : Result (List ℤ) Why → List Record → Type 0
+IsCleared (Ok value) records = Unit {0}
+IsCleared (Err why.OutOfMemory) records = records ≡ []
+IsCleared (Err (why.LivesSpent k l c)) records = Unit {0}
+IsCleared (Err (why.ScheduleShort pending)) records = Unit {0}
 
 -- what a run says of its plan
 abbrev pub RunAnswers : Graph → List Strike → ℕ → Result (List ℤ) Why → List Record → Type 0
@@ -33,3 +40,4 @@ pub record RunComes (g : Graph) (outcome : Outcome) (strikes : List Strike) (liv
   pub tells : RunTells g outcome strikes lives made records
   pub answers : RunAnswers g strikes lives made records
   pub noted : HasAllRecords made → AreRecorded news records
+  pub cleared : IsCleared made records

@@ -2,6 +2,7 @@ ghost use Rattle.std.specs.Prelude.{◌≡◌, ℕ, [], List, length, map, strin
 ghost use Rattle.graph_model.specs.Notes.{Note};
 ghost use Rattle.command_words.specs.Meaning.{StandsFor, asked};
 ghost use Rattle.graph_runner.specs.Commands.{ChecksCome, Comes, Makes, Shows, WordsMake, WordsShow};
+ghost use Rattle.graph_runner.specs.Complete.{ChecksComplete, Completes};
 ghost use Rattle.graph_runner.specs.Notes.{Told};
 ghost use Rattle.graph_runner.specs.Writing.{Tells};
 ghost use Rattle.graph_runner.specs.declared.ending.Ending.{Ending};
@@ -63,10 +64,13 @@ pub fn check_command<S: Source, K: Sink>(
     source: &mut S,
     sink: &mut K,
 ) -> CheckEnd
-    ensures { (came : Ending) × Tells result.status result.message came
+    ensures comes { (came : Ending) × Tells result.status result.message came
         × ChecksCome (map string_bytes words.now)
         (record { left = S.left source.old; left_after = S.left source.new; faults = S.faults source.old; faults_after = S.faults source.new })
         (record { written = K.written sink.old; written_after = K.written sink.new; faults = K.faults sink.old; faults_after = K.faults sink.new }) came }
+    ensures complete { ChecksComplete (map string_bytes words.now)
+        (record { left = S.left source.old; left_after = S.left source.new; faults = S.faults source.old; faults_after = S.faults source.new })
+        (record { written = K.written sink.old; written_after = K.written sink.new; faults = K.faults sink.old; faults_after = K.faults sink.new }) result.status }
 {
     let made = words_shown(alloc, words, source);
     finish(alloc, made, sink)
@@ -130,12 +134,15 @@ pub fn run_command<R: Threads + Wait + Sync, S: Source, K: Sink, P: Probe + Drop
     probes: Vec<P>,
 ) -> End<P>
     requires { length probes.items ≡ 64 }
-    ensures { (came : Ending) × (news : List (List Note)) × Tells result.status result.message came
+    ensures comes { (came : Ending) × (news : List (List Note)) × Tells result.status result.message came
         × Told P.notes probes.items result.probes.items news
         × Comes (map string_bytes words.now)
         (record { left = S.left source.old; left_after = S.left source.new; faults = S.faults source.old; faults_after = S.faults source.new })
         (record { written = K.written sink.old; written_after = K.written sink.new; faults = K.faults sink.old; faults_after = K.faults sink.new })
         result.records.items news came }
+    ensures complete { Completes (map string_bytes words.now)
+        (record { left = S.left source.old; left_after = S.left source.new; faults = S.faults source.old; faults_after = S.faults source.new })
+        (record { written = K.written sink.old; written_after = K.written sink.new; faults = K.faults sink.old; faults_after = K.faults sink.new }) result.status }
 {
     let mut probes = probes;
     let mut records = Vec::new(alloc);

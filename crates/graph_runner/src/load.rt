@@ -13,10 +13,8 @@ use acyclic_audit::{AuditFault, FileGraph, audit};
 use graph_model::{FaultPlan, Text};
 use graph_reader::{TextFault, read_graph};
 use io_edge::{ReadEnd, Source, read_all};
-use raw_graph::RawGraph;
+use raw_graph::{INPUT_BYTES, RawGraph};
 use std::alloc::Global;
-
-const INPUT_LIMIT: usize = 67_108_864;
 
 // What a fault of the text comes to.
 fn text_ending(fault: TextFault) -> Ending
@@ -42,7 +40,7 @@ fn audit_ending(fault: AuditFault) -> Ending
 pub(crate) fn taken<S: Source>(alloc: Global, source: &mut S) -> Result<Text, Ending>
     ensures { Takes (record { left = S.left source.old; left_after = S.left source.new; faults = S.faults source.old; faults_after = S.faults source.new }) result }
 {
-    match read_all(alloc, source, INPUT_LIMIT) {
+    match read_all(alloc, source, INPUT_BYTES) {
         Ok(bytes) => Ok(bytes),
         Err(ReadEnd::Fault) => Err(Ending::ReadFault),
         Err(ReadEnd::TooLong) => Err(Ending::TooLong),

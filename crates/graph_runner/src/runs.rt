@@ -8,7 +8,7 @@ ghost use Rattle.graph_runner.specs.Drilling.{Drills, HoldsDrill, IsDrillText};
 ghost use Rattle.graph_runner.specs.Files.{Runs};
 ghost use Rattle.graph_runner.specs.Formulas.{FitsFormula, formula_outcome};
 ghost use Rattle.graph_runner.specs.Notes.{Told};
-ghost use Rattle.graph_runner.specs.Terms.{AreWithin, is_turned};
+ghost use Rattle.graph_runner.specs.Terms.{AreWithin, MayEnd};
 ghost use Rattle.graph_runner.specs.Workers.{IsDue, RunComes};
 ghost use Rattle.graph_runner.specs.declared.ending.Ending.TheVariants as ending;
 ghost use Rattle.graph_runner.specs.declared.terms.Pace.TheVariants as pace;
@@ -49,9 +49,10 @@ fn filed<R: Threads + Wait + Sync, P: Probe + Drop>(
 ) -> Result<Cells, Why>
     requires terms { AreWithin terms.now }
     requires probes { terms.now.workers ≤ vec_len probes.old }
+    requires records { records.old.items ≡ [] }
     ensures comes { (news : List (List Note)) × Told P.notes probes.old.items probes.new.items news
         × RunComes (tasks_of graph.now) (formula_outcome graph.now) plan.now terms.now.lives result records.new.items news }
-    ensures due { IfErr result (IsDue (is_turned terms.now.pace)) }
+    ensures due { IfErr result (IsDue (MayEnd terms.now.workers terms.now.pace) (tasks_of graph.now) plan.now) }
 {
     file_runs(graph);
     let kernels: Result<Vec<FormulaKernel<'_, P>>, AllocError> = kernels_of(
@@ -79,7 +80,7 @@ pub(crate) fn ran<R: Threads + Wait + Sync, S: Source, P: Probe + Drop>(
     requires probes { terms.now.workers ≤ vec_len probes.old }
     requires records { records.old.items ≡ [] }
     ensures { (news : List (List Note)) × Told P.notes probes.old.items probes.new.items news
-        × Runs (record { left = S.left source.old; left_after = S.left source.new; faults = S.faults source.old; faults_after = S.faults source.new }) (is_turned terms.now.pace) terms.now.lives terms.now.detail records.new.items news result }
+        × Runs (record { left = S.left source.old; left_after = S.left source.new; faults = S.faults source.old; faults_after = S.faults source.new }) (MayEnd terms.now.workers terms.now.pace) terms.now.lives terms.now.detail records.new.items news result }
 {
     let (graph, plan) = open(alloc, source)?;
     let value = match filed(rt, alloc, &graph, &plan, terms, probes, records) {

@@ -1,8 +1,9 @@
 //! On what terms a graph is run by workers.
 
-ghost use Rattle.std.specs.Prelude.{◌≡◌, ◌≤◌, length, false, MatchOption};
+ghost use Rattle.std.specs.Prelude.{◌≡◌, ◌≢◌, ◌≤◌, [], length, false, MatchOption, None};
 ghost use Rattle.command_words.specs.Meaning.{asked};
-ghost use Rattle.graph_runner.specs.Terms.{HasTerms, ample_turns, by_workers, places_in, turn_count};
+ghost use Rattle.run_bounds.specs.Budgets.{all_places, enough_turns};
+ghost use Rattle.graph_runner.specs.Terms.{HasTerms, ample_turns, by_workers, turn_count};
 
 use command_words::Command;
 use graph_model::{FaultPlan, TaskGraph};
@@ -83,7 +84,7 @@ pub(crate) fn terms_of<'a>(command: &'a Command) -> Option<Terms<'a>>
 
 // How many predecessor places all tasks have together.
 fn place_count<G: TaskGraph>(graph: &G) -> u32
-    ensures count { result ≡ places_in (G.graph graph.now) }
+    ensures count { result ≡ all_places (G.graph graph.now) }
     ensures few { result ≤ 41943040 }
 {
     let mut count = 0;
@@ -114,7 +115,8 @@ pub(crate) fn turns_for<G: TaskGraph>(
     plan: &FaultPlan,
 ) -> u64
     requires { length schedule.now ≤ 4096 }
-    ensures { result ≡ turn_count turns (length schedule.now) (length plan.now) (length (G.graph graph.now).keys) (places_in (G.graph graph.now)) }
+    ensures count { result ≡ turn_count turns (length schedule.now) (length plan.now) (length (G.graph graph.now).keys) (all_places (G.graph graph.now)) }
+    ensures enough { turns ≡ None → schedule.now ≢ [] → enough_turns (G.graph graph.now) ≤ result }
 {
     match turns {
         Some(turns) => turns,

@@ -1,13 +1,14 @@
 //! Graphs that are run by workers, one for each kernel.
 
-ghost use Rattle.std.specs.Prelude.{◌≡◌, ◌+◌, ◌++◌, ◌≤◌, List, length, map, vec_capacity, vec_len, IfErr, IfOk};
+ghost use Rattle.std.specs.Prelude.{◌≡◌, ◌+◌, ◌++◌, ◌≤◌, [], List, length, map, vec_capacity, vec_len, IfErr, IfOk};
 ghost use Rattle.graph_model.specs.Notes.{Note};
 ghost use Rattle.worker_pool.specs.Calling.{AreAlike, CalledAsRecorded, CanRun, FirstFits, SameKernels, first_outcome};
 ghost use Rattle.worker_pool.specs.Completing.{AnswersPlan, IsComplete};
-ghost use Rattle.worker_pool.specs.Ends.{EndCalls, EndTells, IsFinished, RunCalls, RunTells};
+ghost use Rattle.worker_pool.specs.Ends.{EndCalls, EndTells, IsFinished, NoneMissing, RunCalls, RunTells};
+ghost use Rattle.worker_pool.specs.declared.end.Why.TheVariants as reason;
 ghost use Rattle.graph_runner.specs.Notes.{Told};
-ghost use Rattle.graph_runner.specs.Terms.{AreWithin, is_turned};
-ghost use Rattle.graph_runner.specs.Workers.{IsDue, RunAnswers, RunComes};
+ghost use Rattle.graph_runner.specs.Terms.{AreWithin, MayEnd};
+ghost use Rattle.graph_runner.specs.Workers.{IsCleared, IsDue, RunAnswers, RunComes};
 
 use crate::probed::{Noting, put_back};
 use crate::terms::{Pace, Terms, turns_for};
@@ -38,7 +39,7 @@ fn run_at_pace<R: Threads + Wait + Sync, G: TaskGraph, Ke: Kernel>(
     ensures end_calls { IfErr result (λ r. EndCalls (map Ke.calls kernels.items) (map Ke.calls r.kernels.items) r.why r.records.items) }
     ensures end_kernels { IfErr result (λ r. SameKernels Ke.outcome Ke.fits kernels.items r.kernels.items) }
     ensures complete { IfErr result (λ r. IsComplete (G.graph graph.now) plan.now terms.now.lives r.why r.records.items) }
-    ensures due { IfErr result (λ r. IsDue (is_turned terms.now.pace) r.why) }
+    ensures due { IfErr result (λ r. IsDue (MayEnd terms.now.workers terms.now.pace) (G.graph graph.now) plan.now r.why) }
 {
     match terms.pace {
         Pace::Threads => run_graph(rt, alloc, graph, kernels, plan, terms.lives),
@@ -46,6 +47,18 @@ fn run_at_pace<R: Threads + Wait + Sync, G: TaskGraph, Ke: Kernel>(
             let turns = turns_for(turns, schedule, graph, plan);
             run_virtual(alloc, graph, kernels, plan, terms.lives, schedule, turns)
         }
+    }
+}
+
+// The records of a run that ended for this reason. None is left where room was refused, since others may be missing.
+fn whole_records(alloc: Global, why: Why, records: Vec<Record>) -> Vec<Record>
+    ensures all { NoneMissing why → result.items ≡ records.items }
+    ensures cleared { why ≡ reason.OutOfMemory → result.items ≡ [] }
+{
+    match why {
+        Why::OutOfMemory => Vec::new(alloc),
+        Why::LivesSpent { .. } => records,
+        Why::ScheduleShort { .. } => records,
     }
 }
 
@@ -65,7 +78,8 @@ fn run_kernels<R: Threads + Wait + Sync, G: TaskGraph, Ke: Kernel>(
     ensures tells { RunTells (G.graph graph.now) (first_outcome Ke.outcome kernels.items) plan.now terms.now.lives result.0 result.1.items }
     ensures answers { RunAnswers (G.graph graph.now) plan.now terms.now.lives result.0 result.1.items }
     ensures calls { RunCalls (map Ke.calls kernels.items) (map Ke.calls result.2.items) result.0 result.1.items }
-    ensures due { IfErr result.0 (IsDue (is_turned terms.now.pace)) }
+    ensures due { IfErr result.0 (IsDue (MayEnd terms.now.workers terms.now.pace) (G.graph graph.now) plan.now) }
+    ensures cleared { IsCleared result.0 result.1.items }
     ensures count { vec_len result.2 ≡ vec_len kernels }
 {
     match run_at_pace(rt, alloc, graph, plan, terms, kernels) {
@@ -82,7 +96,7 @@ fn run_kernels<R: Threads + Wait + Sync, G: TaskGraph, Ke: Kernel>(
                 records,
                 kernels,
             },
-        ) => (Err(why), records, kernels),
+        ) => (Err(why), whole_records(alloc, why, records), kernels),
     }
 }
 
@@ -109,7 +123,7 @@ pub(crate) fn run_by_workers<
     requires room { vec_len kernels + vec_len probes.old ≤ vec_capacity probes.old }
     ensures comes { (before : List P) → map Ke.calls kernels.items ++ map P.notes probes.old.items ≡ map P.notes before → (news : List (List Note)) × Told P.notes before probes.new.items news
         × RunComes (G.graph graph.now) (first_outcome Ke.outcome kernels.items) plan.now terms.now.lives result records.new.items news }
-    ensures due { IfErr result (IsDue (is_turned terms.now.pace)) }
+    ensures due { IfErr result (IsDue (MayEnd terms.now.workers terms.now.pace) (G.graph graph.now) plan.now) }
 {
     let (made, done, kernels) = run_kernels::<R, G, Ke>(rt, alloc, graph, plan, terms, kernels);
     put_back::<P, Ke>(kernels, probes);

@@ -1,4 +1,3 @@
-use Rattle.std.proofs.Common.{◌≡◌}
 use Rattle.command_words.specs.Meaning.{asked}
 use Rattle.graph_runner.proofs.Asking.{within}
 use Rattle.graph_runner.proofs.Makes.{on_paths, on_terms, without_run}

@@ -1,4 +1,4 @@
-use Rattle.std.proofs.Common.{◌≡◌, ◌∙◌, Err, refl, ap}
+use Rattle.std.proofs.Common.{◌∙◌, Err, refl, ap}
 use Rattle.std.proofs.lemmas.Result.{err_from_is_err_and}
 use Rattle.command_words.specs.Meaning.{asked}
 use Rattle.graph_runner.specs.Commands.{misused, refused, served}

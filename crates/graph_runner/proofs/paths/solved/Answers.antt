@@ -1,13 +1,16 @@
 use Rattle.std.proofs.Common.{◌≡◌, List, subst, sym}
 use Rattle.std.proofs.lemmas.Result.{err_from_is_err_and}
+use Rattle.graph_model.specs.Graph.{Graph}
+use Rattle.graph_model.specs.declared.plan.Strike.{Strike}
+use Rattle.apsp_graph.specs.Views.{graph}
 use Rattle.worker_pool.specs.declared.end.Why.TheVariants as why
 use Rattle.graph_runner.specs.Notes.{Told}
 use Rattle.graph_runner.specs.Workers.{IsDue}
 use Rattle.graph_runner.proofs.Kernels.{alike, as_made, can_run}
 use Rattle.graph_runner.proofs.Outcomes.{unrun}
-use Rattle.graph_runner.proofs.Makes.{threads_unturned}
+use Rattle.graph_runner.proofs.Makes.{never_over}
 use Rattle.graph_runner.proofs.Probes.{no_news, told_none, calls-no_news}
-use Rattle.graph_runner.proofs.Solves.{all_cells, solve_fails, solve_short, solved}
+use Rattle.graph_runner.proofs.Solves.{all_cells, solve_fails, solve_short, solved, unsolved}
 use Rattle.graph_runner.proofs.paths.solved.Goals as goal
 
 pub returns-in_err-graph : goal.returns-in_err-graph
@@ -26,7 +29,7 @@ returns-in_err-kernels g c =
     let same : c.kernels_of.new.probes.items ≡ ps = c.in_err-kernels.ensures.refused in (
       no_news ps,
       subst (λ qs. Told g.P.Probe.notes ps qs (no_news ps)) (sym same) (told_none g.P.Probe.notes ps),
-      rw (p.1, p.2) (solve_short _ c.in_ok-graph.graph c.in_ok-graph.plan c.args.terms.now.lives why.OutOfMemory c.args.records.now.items (no_news ps) c.in_ok-graph.ensures (unrun _ _ _ _ _ _) tt),
+      rw (p.1, p.2) (solve_short _ c.in_ok-graph.graph c.in_ok-graph.plan c.args.terms.now.lives why.OutOfMemory c.args.records.now.items (no_news ps) c.in_ok-graph.ensures (unrun _ _ _ _ _ _ c.requires.records) tt),
     )
 
 pub run_by_workers-requires-clause-alike : goal.run_by_workers-requires-clause-alike
@@ -40,10 +43,21 @@ returns-in-Err g c =
     let told = c.run_by_workers.ensures.comes c.args.probes.now.items c.in_ok-kernels.ensures.front in
     let made = as_made _ _ _ _ _ _ c.requires.terms.workers.0 c.in_ok-kernels.ensures.kernels _ _ _ _ _ _ told.2 in
     let comes = rw c.in-Err.is at made in
-    let due = subst (λ b. IsDue b c.in-Err.why) (threads_unturned c.args.terms.now.pace c.requires.threads) c.in-Err.ensures.due in (
+    let due = subst (λ (Over : Graph → List Strike → Type 0). IsDue Over (graph c.in_ok-graph.graph) c.in_ok-graph.plan c.in-Err.why) (never_over c.args.terms.now.workers c.args.terms.now.pace c.requires.threads) c.in-Err.ensures.due in (
       told.0,
       told.1,
       rw c.run_ending.ensures (solve_short _ c.in_ok-graph.graph c.in_ok-graph.plan c.args.terms.now.lives c.in-Err.why c.run_by_workers.new.records.items told.0 c.in_ok-graph.ensures comes due),
+    )
+
+pub returns-in_err-text : goal.returns-in_err-text
+returns-in_err-text g c =
+    let p = err_from_is_err_and c.from_residual-in_err-text.result c.from_residual-in_err-text.ensures.1 in
+    let told = c.run_by_workers.ensures.comes c.args.probes.now.items c.in_ok-kernels.ensures.front in
+    let made = as_made _ _ _ _ _ _ c.requires.terms.workers.0 c.in_ok-kernels.ensures.kernels _ _ _ _ _ _ told.2 in
+    let comes = rw c.in-Ok.is at made in (
+      told.0,
+      told.1,
+      rw (p.1, p.2) (unsolved _ c.in_ok-graph.graph c.in_ok-graph.plan c.args.terms.now.lives c.in-Ok.value c.run_by_workers.new.records.items told.0 c.in_ok-graph.ensures comes),
     )
 
 pub returns : goal.returns

@@ -20,4 +20,4 @@ pub returns-in-Err-clause-comes : goal.returns-in-Err-clause-comes
 returns-in-Err-clause-comes g c =
     let ps = c.args.probes.now.items in
     let same : c.kernels_of-kernels.new.probes.items ≡ ps = c.in-Err.ensures.refused in
-    (no_news ps, subst (λ qs. Told g.P.Probe.notes ps qs (no_news ps)) (sym same) (told_none g.P.Probe.notes ps), unrun _ _ _ _ _ _)
+    (no_news ps, subst (λ qs. Told g.P.Probe.notes ps qs (no_news ps)) (sym same) (told_none g.P.Probe.notes ps), unrun _ _ _ _ _ _ c.requires.records)

@@ -1,6 +1,5 @@
-use Rattle.std.proofs.Common.{◌≡◌, ◌∙◌, List, subst, ap}
 use Rattle.std.proofs.lemmas.Result.{err_from_is_err_and}
-use Rattle.graph_runner.proofs.Files.{file_fails, file_short, whole}
+use Rattle.graph_runner.proofs.Files.{file_fails, file_short, unreported, whole}
 use Rattle.graph_runner.proofs.Probes.{no_news, told_none, calls-no_news}
 use Rattle.graph_runner.proofs.runs.ran.Goals as goal
 
@@ -23,6 +22,16 @@ returns-in-Err g c =
       rw c.run_ending.ensures
           (file_short _ c.in_ok-graph.graph c.in_ok-graph.plan _ c.args.terms.now.lives c.args.terms.now.detail c.in-Err.why c.filed.new.records.items told.0 c.in_ok-graph.ensures
           comes c.in-Err.ensures.due),
+    )
+
+pub returns-in_err-text : goal.returns-in_err-text
+returns-in_err-text g c =
+    let p = err_from_is_err_and c.from_residual-in_err-text.result c.from_residual-in_err-text.ensures.1 in
+    let told = c.filed.ensures.comes in
+    let comes = rw c.in-Ok.is at told.2 in (
+      told.0,
+      told.1,
+      rw (p.1, p.2) (unreported _ c.in_ok-graph.graph c.in_ok-graph.plan c.args.terms.now.lives c.in-Ok.value c.filed.new.records.items told.0 c.in_ok-graph.ensures comes),
     )
 
 pub returns : goal.returns

@@ -14,5 +14,6 @@ returns-clause-comes g c before front =
         tells = run.tells;
         answers = run.answers;
         noted = λ whole k l. ap (calls_for k l) (calls-front (map g.P.Probe.notes rest) told.0) ∙ told.2 whole k l;
+        cleared = run.cleared;
       },
     )
