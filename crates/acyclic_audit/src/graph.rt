@@ -4,7 +4,7 @@ ghost use Rattle.graph_model.specs.Graph.{IsLawful};
 ghost use Rattle.acyclic_audit.specs.FileGraphs.{IsWhole, graph_of};
 
 use crate::findings::Findings;
-use audit_checks::{find, number_of};
+use audit_checks::KeyIndex;
 use audit_cycles::ancestors;
 use formula_text::Formula;
 use graph_model::{Edge, Key, Kind, Place, TaskGraph};
@@ -13,12 +13,12 @@ use std::alloc::{AllocError, Global};
 
 /// An accepted graph of a file.
 ///
-/// A call that takes a key finds the task in constant time where the keys follow one another without a gap, and
-/// else by a binary search. All else takes constant time, but for `needed` and `reachable`, which follow each edge
-/// once.
+/// A call that takes a key finds the task by its distance from the first key, else by the key's hash, and else by a binary
+/// search. All else takes constant time, but for `needed` and `reachable`, which follow each edge once.
 #[derive(Drop)]
 pub struct FileGraph {
     keys: Vec<u64>,
+    index: KeyIndex,
     tasks: Vec<RawTask>,
     found: Findings,
     ghost whole: { IsWhole keys.items tasks.items found } by { Prim.hlevel props },
@@ -35,7 +35,7 @@ impl TaskGraph for FileGraph {
     }
 
     fn has(&self, key: Key) -> bool {
-        find(self.keys.as_slice(), key.0).is_some()
+        self.index.find(self.keys.as_slice(), key.0).is_some()
     }
 
     fn task_count(&self) -> u32 {
@@ -99,13 +99,23 @@ impl FileGraph {
     ghost use Rattle.acyclic_audit.specs.Reaching.{IsReachedCount};
 
     // The graph that the findings tell.
-    pub(crate) fn of(keys: Vec<u64>, tasks: Vec<RawTask>, found: Findings) -> FileGraph
+    pub(crate) fn of(
+        keys: Vec<u64>,
+        index: KeyIndex,
+        tasks: Vec<RawTask>,
+        found: Findings,
+    ) -> FileGraph
         requires whole { IsWhole keys.items tasks.items found }
         requires lawful { IsLawful (graph_of keys.items tasks.items found) }
         ensures graph { graph result ≡ graph_of keys.items tasks.items found }
         ensures trees { (k : ℕ) → tree_at result k ≡ tree_in keys.items tasks.items k }
     {
-        FileGraph { keys, tasks, found }
+        FileGraph {
+            keys,
+            index,
+            tasks,
+            found,
+        }
     }
 
     // The row of a task.
@@ -114,7 +124,7 @@ impl FileGraph {
         ensures is { result ≡ number_in (graph self.now).keys key.0 }
         ensures inside { result < length (graph self.now).keys }
     {
-        number_of(self.keys.as_slice(), key.0)
+        self.index.number_of(self.keys.as_slice(), key.0)
     }
 
     /// The formula of a task.

@@ -14,7 +14,8 @@ use crate::findings::Findings;
 use crate::graph::FileGraph;
 use audit_blocks::blocks_of;
 use audit_checks::{
-    AuditFault, check_edges, check_inputs, check_keys, check_names, check_places, find, links_of,
+    AuditFault, KeyIndex, check_edges, check_inputs, check_keys, check_names, check_places,
+    links_of,
 };
 use audit_cycles::check_cycles;
 use graph_model::Key;
@@ -39,7 +40,12 @@ fn keys_in(alloc: Global, tasks: &[RawTask]) -> Result<Vec<u64>, AllocError>
 }
 
 // The first four refusals. What is left is the number of the sink.
-fn check_all_names(keys: &[u64], tasks: &[RawTask], sink: Key) -> Result<u32, AuditFault>
+fn check_all_names(
+    keys: &[u64],
+    index: &KeyIndex,
+    tasks: &[RawTask],
+    sink: Key,
+) -> Result<u32, AuditFault>
     requires keys { keys_of tasks.now ≡ keys.now }
     requires sorted { IsNonDecreasing keys.now }
     requires tasks { length tasks.now ≤ 16384 }
@@ -51,8 +57,8 @@ fn check_all_names(keys: &[u64], tasks: &[RawTask], sink: Key) -> Result<u32, Au
     ensures err { IfErr result (IsFault tasks.now sink.0) }
 {
     check_keys(keys, tasks)?;
-    check_names(keys, tasks)?;
-    let Some(number) = find(keys, sink.0) else {
+    check_names(keys, index, tasks)?;
+    let Some(number) = index.find(keys, sink.0) else {
         return Err(AuditFault::NoSink { key: sink });
     };
     check_places(tasks)?;
@@ -63,6 +69,7 @@ fn check_all_names(keys: &[u64], tasks: &[RawTask], sink: Key) -> Result<u32, Au
 fn check_all(
     alloc: Global,
     keys: &[u64],
+    index: &KeyIndex,
     tasks: &[RawTask],
     sink: Key,
 ) -> Result<Findings, AuditFault>
@@ -72,8 +79,8 @@ fn check_all(
     ensures found { IfOk result (IsFound keys.now tasks.now sink.0) }
     ensures err { IfErr result (IsFault tasks.now sink.0) }
 {
-    let number = check_all_names(keys, tasks, sink)?;
-    let Ok(links) = links_of(alloc, keys, tasks) else {
+    let number = check_all_names(keys, index, tasks, sink)?;
+    let Ok(links) = links_of(alloc, keys, index, tasks) else {
         return Err(AuditFault::OutOfMemory);
     };
     check_edges(keys, tasks, sink.0, links.succs.as_slice())?;
@@ -100,8 +107,11 @@ fn audit_sorted(alloc: Global, tasks: Vec<RawTask>, sink: Key) -> Result<FileGra
     let Ok(keys) = keys_in(alloc, tasks.as_slice()) else {
         return Err(AuditFault::OutOfMemory);
     };
-    let found = check_all(alloc, keys.as_slice(), tasks.as_slice(), sink)?;
-    Ok(FileGraph::of(keys, tasks, found))
+    let Ok(index) = KeyIndex::of(alloc, keys.as_slice()) else {
+        return Err(AuditFault::OutOfMemory);
+    };
+    let found = check_all(alloc, keys.as_slice(), &index, tasks.as_slice(), sink)?;
+    Ok(FileGraph::of(keys, index, tasks, found))
 }
 
 /// The graph as a task graph, or the first refusal.

@@ -2,6 +2,7 @@
 #![tactic(auto)]
 
 mod fault;
+mod index;
 mod inputs;
 mod links;
 mod names;
@@ -10,9 +11,10 @@ mod sizes;
 mod tasks;
 
 pub use fault::AuditFault;
+pub use index::KeyIndex;
 pub use inputs::check_inputs;
 pub use links::{Links, links_of};
 pub use names::{check_keys, check_names};
 pub use rows::{empty_rows, push_at};
 pub use sizes::{check_edges, check_places};
-pub use tasks::{find, number_of, place, place_count};
+pub use tasks::{place, place_count};

@@ -7,8 +7,9 @@ ghost use Rattle.audit_checks.specs.ByKey.{IsReverseByKey, row_by};
 ghost use Rattle.audit_checks.specs.Links.{Reverse, HasFewPorts, Tells, places_in, succs_in};
 ghost use Rattle.audit_checks.specs.Ports.{AreAscending, StandBefore};
 
+use crate::index::KeyIndex;
 use crate::rows::{empty_rows, push_at};
-use crate::tasks::{number_of, place, place_count};
+use crate::tasks::{place, place_count};
 use raw_graph::RawTask;
 use std::alloc::{AllocError, Global};
 
@@ -41,7 +42,13 @@ fn add_edge(links: &mut Links, k: u32, j: u32, p: u32) -> Result<(), AllocError>
 }
 
 // The places of task k.
-fn add_task(links: &mut Links, keys: &[u64], tasks: &[RawTask], k: u32) -> Result<(), AllocError>
+fn add_task(
+    links: &mut Links,
+    keys: &[u64],
+    index: &KeyIndex,
+    tasks: &[RawTask],
+    k: u32,
+) -> Result<(), AllocError>
     requires task { k < length tasks.now }
     requires places_len { vec_len links.old.places ≡ length tasks.now }
     requires succs_len { vec_len links.old.succs ≡ length tasks.now }
@@ -65,14 +72,19 @@ fn add_task(links: &mut Links, keys: &[u64], tasks: &[RawTask], k: u32) -> Resul
 {
     let task = &tasks[k as usize];
     for j in 0..place_count(task) {
-        let p = number_of(keys, place(task, j));
+        let p = index.number_of(keys, place(task, j));
         add_edge(links, k, j as u32, p as u32)?;
     }
     Ok(())
 }
 
 /// The edges of these tasks.
-pub fn links_of(alloc: Global, keys: &[u64], tasks: &[RawTask]) -> Result<Links, AllocError>
+pub fn links_of(
+    alloc: Global,
+    keys: &[u64],
+    index: &KeyIndex,
+    tasks: &[RawTask],
+) -> Result<Links, AllocError>
     requires keys { keys_of tasks.now ≡ keys.now }
     requires ascending { IsAscending keys.now }
     requires known { NamesTasks tasks.now }
@@ -92,7 +104,7 @@ pub fn links_of(alloc: Global, keys: &[u64], tasks: &[RawTask]) -> Result<Links,
         succs: empty_rows(alloc, tasks.len())?,
     };
     for k in 0..tasks.len() {
-        add_task(&mut links, keys, tasks, k as u32)?;
+        add_task(&mut links, keys, index, tasks, k as u32)?;
     }
     Ok(links)
 }
