@@ -28,6 +28,9 @@ use std::alloc::{AllocError, Global};
 /// How many items a turn may add.
 const ROOM: usize = 4;
 
+/// For how many items more a full list grows: an exploring needs no more than these, so its list is made once.
+const GROWTH: usize = 7;
+
 /// The work of a job, with all that was met on the way. Each stack ends with its credit, and the last
 /// item is turned.
 #[derive(Debug, Drop)]
@@ -40,6 +43,7 @@ pub struct Task {
 }
 
 // Puts one thing behind the others, if there is one.
+#[inline(always)]
 fn put<X>(list: &mut Vec<X>, item: Option<X>)
 where
     X: Drop,
@@ -54,6 +58,7 @@ where
 }
 
 // Puts three things behind the others, each if it is there.
+#[inline(always)]
 fn put_three<X>(list: &mut Vec<X>, first: Option<X>, second: Option<X>, third: Option<X>)
 where
     X: Drop,
@@ -67,6 +72,7 @@ where
 }
 
 // How many items are left of an item, with what came above it.
+#[inline(always)]
 fn count_of(after: &After) -> usize
     ensures { result ≡ length (after_items after.now) }
 {
@@ -85,6 +91,7 @@ fn count_of(after: &After) -> usize
 }
 
 // Whether an item has nothing left to do, and gives nothing back.
+#[inline(always)]
 fn is_over<G: TaskGraph>(item: &Item, terms: &Terms<'_, G>) -> bool
     requires { MayBeOver (G.graph terms.now.graph.now) item.now }
     ensures { InEachGraphOf (G.graph terms.now.graph.now) (λ r. result ≡ is_over r terms.now.plan.now item.now) }
@@ -102,6 +109,7 @@ fn is_over<G: TaskGraph>(item: &Item, terms: &Terms<'_, G>) -> bool
 }
 
 // Takes the last item that has something left to do; those behind it go.
+#[inline(always)]
 fn next<G: TaskGraph>(items: &mut Vec<Item>, terms: &Terms<'_, G>) -> Option<Item>
     requires { AllMayBeOver (G.graph terms.now.graph.now) items.old.items }
     ensures next { InEachGraphOf (G.graph terms.now.graph.now) (λ r. IsNext r terms.now.plan.now items.old.items items.new.items result) }
@@ -116,6 +124,7 @@ fn next<G: TaskGraph>(items: &mut Vec<Item>, terms: &Terms<'_, G>) -> Option<Ite
 }
 
 // What the turn of an item comes to for its task, of which this many items are left then.
+#[inline(always)]
 fn told_of(came: Came, left: usize) -> Turn
     ensures { result ≡ task_turn came left }
 {
@@ -215,11 +224,16 @@ impl Task {
         ensures room { OnOk result (length self.new.items.items + 4 ≤ vec_capacity self.new.items) }
         ensures same { SameTask self.old self.new }
     {
-        self.items.reserve(ROOM)
+        if ROOM <= self.items.capacity() - self.items.len() {
+            return Ok(());
+        }
+        self.items.reserve(GROWTH)
     }
 
-    // Begins the job's stack with its credit.
-    fn begin(&mut self)
+    // Begins the job's stack with its credit. It stands apart, so that the turns that follow pay nothing for it.
+    #[cold]
+    #[inline(never)]
+    fn begin_stack(&mut self)
         requires { HasSpace self.old }
         ensures items { self.new.items.items ≡ task_items self.old }
         ensures begun { self.new.begins ≡ None }
@@ -231,7 +245,23 @@ impl Task {
         }
     }
 
+    // Begins the job's stack with its credit, if it has not begun.
+    #[inline(always)]
+    fn begin(&mut self)
+        requires { HasSpace self.old }
+        ensures items { self.new.items.items ≡ task_items self.old }
+        ensures begun { self.new.begins ≡ None }
+        ensures hand { self.new.hand ≡ self.old.hand }
+        ensures room { length self.new.items.items + 2 ≤ vec_capacity self.new.items }
+    {
+        match &self.begins {
+            Some(_) => self.begin_stack(),
+            None => {}
+        }
+    }
+
     // Puts what is left of an item, and what came above it.
+    #[inline(always)]
     fn put_after(&mut self, after: After)
         requires { length self.old.items.items + 3 ≤ vec_capacity self.old.items }
         ensures items { self.new.items.items ≡ self.old.items.items ++ after_items after }
