@@ -75,6 +75,7 @@ impl Close {
     }
 
     /// One strike's step at a point, or one exchange of the word.
+    #[inline(never)]
     pub(crate) fn turn<T: Steps, G: TaskGraph>(
         self,
         steps: &mut T,

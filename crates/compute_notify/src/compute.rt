@@ -64,6 +64,7 @@ impl Compute {
 
     /// One step: a strike's or a load at the beginning, half of a reading for each input, and half of the writing.
     /// The kernel is called in the turn after the last reading.
+    #[inline(never)]
     pub(crate) fn turn<T: Steps, G: TaskGraph, Ke: Kernel>(
         self,
         steps: &mut T,

@@ -76,6 +76,7 @@ impl Explore {
 
     /// One step towards the predecessor at the place; behind the last place one strike's step at the point,
     /// and then the spending of the self place.
+    #[inline(never)]
     pub(crate) fn turn<T: Steps, G: TaskGraph>(
         self,
         steps: &mut T,

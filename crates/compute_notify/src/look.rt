@@ -58,6 +58,7 @@ impl Look {
     }
 
     /// One look for the writer, or the load of the notify word at which it would have been waited for.
+    #[inline(never)]
     pub(crate) fn turn<T: Steps, G: TaskGraph>(self, steps: &mut T, terms: &Terms<'_, G>) -> After
         requires runs { Runs (G.graph terms.now.graph.now) terms.now.plan.now terms.now.lives (T.setting steps.old) }
         requires stands { Stands (G.graph terms.now.graph.now) (T.setting steps.old) (T.view steps.old) (Item.Look self) }

@@ -16,6 +16,7 @@ use graph_model::TaskGraph;
 use recovery::{Owe, Paid};
 
 /// Buys a credit, or posts the job with it. The job that stood there begins a stack.
+#[inline(never)]
 pub(crate) fn pay<T: Steps, G: TaskGraph>(
     mut owe: Owe,
     steps: &mut T,
@@ -42,6 +43,7 @@ pub(crate) fn pay<T: Steps, G: TaskGraph>(
 }
 
 /// Gives the credit of a stack back that has no items left.
+#[inline(never)]
 pub(crate) fn give_up<T: Steps, G: TaskGraph>(steps: &mut T, terms: &Terms<'_, G>) -> After
     requires runs { Runs (G.graph terms.now.graph.now) terms.now.plan.now terms.now.lives (T.setting steps.old) }
     requires stands { Stands (G.graph terms.now.graph.now) (T.setting steps.old) (T.view steps.old) (Item.Credit) }

@@ -44,6 +44,7 @@ fn came_of(told: Turn, lives: u32) -> Came
 }
 
 /// One step of a replacement, or none where the life was the greatest that its task may have.
+#[inline(never)]
 pub(crate) fn replace<T: Steps, G: TaskGraph>(
     mut recover: Recover,
     steps: &mut T,
