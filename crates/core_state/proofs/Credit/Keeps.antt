@@ -1,5 +1,5 @@
 -- Steps that change only credits, empty stacks, and what views know of pending and stop.
-use Rattle.std.proofs.Common.{◌≡◌, ℕ, zero, suc, ◌+◌, ◌-◌, ◌<◌, ◌≤◌, Bool, true, false, cond, eqb, min, List, [], ◌∷◌, length, ⊎_elim, arith, sym, ap, refl, ◌∙◌, subst}
+use Rattle.std.proofs.Common.{◌≡◌, ◌≢◌, ℕ, zero, suc, ◌+◌, ◌-◌, ◌<◌, ◌≤◌, Bool, true, false, cond, eqb, min, List, [], ◌∷◌, length, ⊎_elim, arith, sym, ap, refl, ◌∙◌, subst}
 use mathlib.Core.Logic.{dite}
 use native.Mathlib.Decide.{ℕ_discrete}
 use Rattle.core_state.specs.Graph.{Setting}
@@ -18,6 +18,7 @@ use Rattle.graph_model.specs.declared.record.Hit.{Hit}
 use Rattle.core_state.specs.declared.views.Item.{Item}
 use Rattle.core_state.specs.declared.job.Job.{Job}
 use Rattle.core_state.specs.declared.job.Job.TheVariants.{Explore, Compute}
+use Rattle.core_state.specs.declared.views.Known.{Known}
 use Rattle.core_state.specs.declared.views.Known.TheVariants as known
 use Rattle.core_state.specs.declared.views.Stack.{Stack}
 use Rattle.core_state.specs.declared.views.Word.{Word}
@@ -101,34 +102,61 @@ module _ (e : Setting) (s t : Core) (at : Spot) (n m : ℕ) (v w : View) (c : Ch
   pub word_same : (b : Spot) → (at ≡ b → ⊥) → t.word b ≡ s.word b
   word_same b ne = c.others b (λ e. ne (sym e))
 
+-- no word of a row but its key, and of no block
+record IsAside (at : Spot) : Type 0 where
+  pub no_descriptor : (r : ℕ) → descriptor r ≢ at
+  pub no_notify : (r w : ℕ) → notify r w ≢ at
+  pub no_recovery : (r : ℕ) → recovery r ≢ at
+  pub no_job : (i : Job) (r : ℕ) → posted i r ≢ at
+  pub no_turn : (b : ℕ) → turn b ≢ at
+
+pending_aside : IsAside pending
+pending_aside = record { no_descriptor = λ r z. cc; no_notify = λ r w z. cc; no_recovery = λ r z. cc; no_job = λ i r z. cc; no_turn = λ b z. cc }
+
+stop_aside : IsAside stop
+stop_aside = record { no_descriptor = λ r z. cc; no_notify = λ r w z. cc; no_recovery = λ r z. cc; no_job = λ i r z. cc; no_turn = λ b z. cc }
+
+key_aside : (r : ℕ) → IsAside (key r)
+key_aside r0 = record { no_descriptor = λ r z. cc; no_notify = λ r w z. cc; no_recovery = λ r z. cc; no_job = λ i r z. cc; no_turn = λ b z. cc }
+
 module _ (e : Setting) (s t : Core) where
-  -- buying a credit
-  pub calm_buy : (n : ℕ) (v : View) → Change s t pending n (n + 1) v (after_buy v) → Calm e s t
-  calm_buy n v c = let eq = same e s t pending n (n + 1) v (after_buy v) c in let wd = word_same e s t pending n (n + 1) v (after_buy v) c in record {
-    keys = λ r. wd (key r) (λ e. cc);
-    descriptors = λ r. wd (descriptor r) (λ e. cc);
-    notify_words = λ r x. wd (notify r x) (λ e. cc);
-    recoveries = λ r. wd (recovery r) (λ e. cc);
-    posts = λ i r. wd (posted i r) (λ e. cc);
-    turns = λ b. wd (turn b) (λ e. cc);
+  -- only facts that are not of words of a task, and spare credits, change
+  calm_light : (at : Spot) → IsAside at → SameKeys s t → (n m : ℕ) (v : View) (ks : List Known) (x : ℕ)
+      → ((k l : ℕ) (w : Word) → facts (is_seen_life k w l) (record v { known = ks; spare = x }) ≡ facts (is_seen_life k w l) v)
+      → ((k l : ℕ) (w : Word) → facts (is_seen_mark k w l) (record v { known = ks; spare = x }) ≡ facts (is_seen_mark k w l) v)
+      → ((k l w : ℕ) → facts (is_seen_closed k l w) (record v { known = ks; spare = x }) ≡ facts (is_seen_closed k l w) v)
+      → ((k l q : ℕ) → waits k l q (record v { known = ks; spare = x }) ≡ waits k l q v)
+      → Change s t at n m v (record v { known = ks; spare = x }) → Calm e s t
+  calm_light at aside same_keys n m v ks x lives marks_same closed waited c = let eq = same e s t at n m v (record v { known = ks; spare = x }) c in record {
+    keys = same_keys;
+    descriptors = λ r. c.others (descriptor r) (aside.no_descriptor r);
+    notify_words = λ r w. c.others (notify r w) (aside.no_notify r w);
+    recoveries = λ r. c.others (recovery r) (aside.no_recovery r);
+    posts = λ i r. c.others (posted i r) (aside.no_job i r);
+    turns = λ b. c.others (turn b) (aside.no_turn b);
     its = λ p. eq (items p) refl;
     recs = λ p. eq (Rattle.core_state.specs.Counts.noted p) refl;
     ends = λ i k l. eq (ended i k l) refl;
     begins = λ i k l. eq (begun i k l) refl;
-    waiting = λ k l q. eq (waits k l q) refl;
-    lifes = λ k l x. eq (facts (is_seen_life k x l)) refl;
-    marks = λ k l x. eq (facts (is_seen_mark k x l)) refl;
-    closes = λ k l x. eq (facts (is_seen_closed k l x)) refl;
+    waiting = λ k l q. eq (waits k l q) (waited k l q);
+    lifes = λ k l w. eq (facts (is_seen_life k w l)) (lives k l w);
+    marks = λ k l w. eq (facts (is_seen_mark k w l)) (marks_same k l w);
+    closes = λ k l w. eq (facts (is_seen_closed k l w)) (closed k l w);
     hands = λ b. eq (in_hand b) refl;
     wrong = λ b k. eq (in_wrong_hand b k) refl;
-    by = λ x. eq (struck_by x) refl;
-    idly = λ x y. eq (struck_idly x y) refl;
+    by = λ y. eq (struck_by y) refl;
+    idly = λ y z. eq (struck_idly y z) refl;
     upto = λ k l h. eq (struck_upto e.plan k l h) refl;
     selfs = λ k l j. eq (covers_self k l j) refl;
     edges = λ p q. eq (covers_edge p q) refl;
     working = λ k l. eq (works k l) refl;
-    blocks = λ b. c.blocks b (λ e. cc);
+    blocks = λ b. c.blocks b (aside.no_turn b);
   }
+
+module _ (e : Setting) (s t : Core) where
+  -- buying a credit
+  calm_buy : (n : ℕ) (v : View) → Change s t pending n (n + 1) v (after_buy v) → Calm e s t
+  calm_buy n v c = calm_light e s t pending pending_aside (λ r. c.others (key r) (λ z. cc)) n (n + 1) v v.known (v.spare + 1) (λ k l x. refl) (λ k l x. refl) (λ k l x. refl) (λ k l x. refl) c
 
   -- a view that owes has a stack
   owes_stack : (v : View) → 0 < items is_owe v → 0 < stack_count v
@@ -187,167 +215,23 @@ idle_came i k l (s ∷ ss) = by (idle_came i k l ss) (is_idle_stack s.items)
     by h false = both (came_with i k l s) (count (came_with i k l) (without_idle ss)) (count (came_with i k l) ss) h
 
 module _ (e : Setting) (s t : Core) where
-  pub calm_stop : (n m : ℕ) (v : View) → Change s t stop n m v (after_stop v) → Calm e s t
-  calm_stop n m v c = let eq = same e s t stop n m v (after_stop v) c in let wd = word_same e s t stop n m v (after_stop v) c in record {
-    keys = λ r. wd (key r) (λ e. cc);
-    descriptors = λ r. wd (descriptor r) (λ e. cc);
-    notify_words = λ r x. wd (notify r x) (λ e. cc);
-    recoveries = λ r. wd (recovery r) (λ e. cc);
-    posts = λ i r. wd (posted i r) (λ e. cc);
-    turns = λ b. wd (turn b) (λ e. cc);
-    its = λ p. eq (items p) refl;
-    recs = λ p. eq (Rattle.core_state.specs.Counts.noted p) refl;
-    ends = λ i k l. eq (ended i k l) refl;
-    begins = λ i k l. eq (begun i k l) refl;
-    waiting = λ k l q. eq (waits k l q) refl;
-    lifes = λ k l x. eq (facts (is_seen_life k x l)) refl;
-    marks = λ k l x. eq (facts (is_seen_mark k x l)) refl;
-    closes = λ k l x. eq (facts (is_seen_closed k l x)) refl;
-    hands = λ b. eq (in_hand b) refl;
-    wrong = λ b k. eq (in_wrong_hand b k) refl;
-    by = λ x. eq (struck_by x) refl;
-    idly = λ x y. eq (struck_idly x y) refl;
-    upto = λ k l h. eq (struck_upto e.plan k l h) refl;
-    selfs = λ k l j. eq (covers_self k l j) refl;
-    edges = λ p q. eq (covers_edge p q) refl;
-    working = λ k l. eq (works k l) refl;
-    blocks = λ b. c.blocks b (λ e. cc);
-  }
+  calm_stop : (n m : ℕ) (v : View) → Change s t stop n m v (after_stop v) → Calm e s t
+  calm_stop n m v c = calm_light e s t stop stop_aside (λ r. c.others (key r) (λ z. cc)) n m v (known.Stops ∷ v.known) v.spare (λ k l x. refl) (λ k l x. refl) (λ k l x. refl) (λ k l x. refl) c
 
-  pub calm_idle : (n m : ℕ) (v : View) → Change s t pending n m v (record v { known = known.Idle ∷ v.known }) → Calm e s t
-  calm_idle n m v c = let eq = same e s t pending n m v (record v { known = known.Idle ∷ v.known }) c in let wd = word_same e s t pending n m v (record v { known = known.Idle ∷ v.known }) c in record {
-    keys = λ r. wd (key r) (λ e. cc);
-    descriptors = λ r. wd (descriptor r) (λ e. cc);
-    notify_words = λ r x. wd (notify r x) (λ e. cc);
-    recoveries = λ r. wd (recovery r) (λ e. cc);
-    posts = λ i r. wd (posted i r) (λ e. cc);
-    turns = λ b. wd (turn b) (λ e. cc);
-    its = λ p. eq (items p) refl;
-    recs = λ p. eq (Rattle.core_state.specs.Counts.noted p) refl;
-    ends = λ i k l. eq (ended i k l) refl;
-    begins = λ i k l. eq (begun i k l) refl;
-    waiting = λ k l q. eq (waits k l q) refl;
-    lifes = λ k l x. eq (facts (is_seen_life k x l)) refl;
-    marks = λ k l x. eq (facts (is_seen_mark k x l)) refl;
-    closes = λ k l x. eq (facts (is_seen_closed k l x)) refl;
-    hands = λ b. eq (in_hand b) refl;
-    wrong = λ b k. eq (in_wrong_hand b k) refl;
-    by = λ x. eq (struck_by x) refl;
-    idly = λ x y. eq (struck_idly x y) refl;
-    upto = λ k l h. eq (struck_upto e.plan k l h) refl;
-    selfs = λ k l j. eq (covers_self k l j) refl;
-    edges = λ p q. eq (covers_edge p q) refl;
-    working = λ k l. eq (works k l) refl;
-    blocks = λ b. c.blocks b (λ e. cc);
-  }
+  calm_idle : (n m : ℕ) (v : View) → Change s t pending n m v (record v { known = known.Idle ∷ v.known }) → Calm e s t
+  calm_idle n m v c = calm_light e s t pending pending_aside (λ r. c.others (key r) (λ z. cc)) n m v (known.Idle ∷ v.known) v.spare (λ k l x. refl) (λ k l x. refl) (λ k l x. refl) (λ k l x. refl) c
 
-  pub calm_stopped : (n m : ℕ) (v : View) → Change s t stop n m v (record v { known = known.Stopped ∷ v.known }) → Calm e s t
-  calm_stopped n m v c = let eq = same e s t stop n m v (record v { known = known.Stopped ∷ v.known }) c in let wd = word_same e s t stop n m v (record v { known = known.Stopped ∷ v.known }) c in record {
-    keys = λ r. wd (key r) (λ e. cc);
-    descriptors = λ r. wd (descriptor r) (λ e. cc);
-    notify_words = λ r x. wd (notify r x) (λ e. cc);
-    recoveries = λ r. wd (recovery r) (λ e. cc);
-    posts = λ i r. wd (posted i r) (λ e. cc);
-    turns = λ b. wd (turn b) (λ e. cc);
-    its = λ p. eq (items p) refl;
-    recs = λ p. eq (Rattle.core_state.specs.Counts.noted p) refl;
-    ends = λ i k l. eq (ended i k l) refl;
-    begins = λ i k l. eq (begun i k l) refl;
-    waiting = λ k l q. eq (waits k l q) refl;
-    lifes = λ k l x. eq (facts (is_seen_life k x l)) refl;
-    marks = λ k l x. eq (facts (is_seen_mark k x l)) refl;
-    closes = λ k l x. eq (facts (is_seen_closed k l x)) refl;
-    hands = λ b. eq (in_hand b) refl;
-    wrong = λ b k. eq (in_wrong_hand b k) refl;
-    by = λ x. eq (struck_by x) refl;
-    idly = λ x y. eq (struck_idly x y) refl;
-    upto = λ k l h. eq (struck_upto e.plan k l h) refl;
-    selfs = λ k l j. eq (covers_self k l j) refl;
-    edges = λ p q. eq (covers_edge p q) refl;
-    working = λ k l. eq (works k l) refl;
-    blocks = λ b. c.blocks b (λ e. cc);
-  }
+  calm_stopped : (n m : ℕ) (v : View) → Change s t stop n m v (record v { known = known.Stopped ∷ v.known }) → Calm e s t
+  calm_stopped n m v c = calm_light e s t stop stop_aside (λ r. c.others (key r) (λ z. cc)) n m v (known.Stopped ∷ v.known) v.spare (λ k l x. refl) (λ k l x. refl) (λ k l x. refl) (λ k l x. refl) c
 
-  pub calm_seen_pending : (n m : ℕ) (v : View) → Change s t pending n m v (v) → Calm e s t
-  calm_seen_pending n m v c = let eq = same e s t pending n m v (v) c in let wd = word_same e s t pending n m v (v) c in record {
-    keys = λ r. wd (key r) (λ e. cc);
-    descriptors = λ r. wd (descriptor r) (λ e. cc);
-    notify_words = λ r x. wd (notify r x) (λ e. cc);
-    recoveries = λ r. wd (recovery r) (λ e. cc);
-    posts = λ i r. wd (posted i r) (λ e. cc);
-    turns = λ b. wd (turn b) (λ e. cc);
-    its = λ p. eq (items p) refl;
-    recs = λ p. eq (Rattle.core_state.specs.Counts.noted p) refl;
-    ends = λ i k l. eq (ended i k l) refl;
-    begins = λ i k l. eq (begun i k l) refl;
-    waiting = λ k l q. eq (waits k l q) refl;
-    lifes = λ k l x. eq (facts (is_seen_life k x l)) refl;
-    marks = λ k l x. eq (facts (is_seen_mark k x l)) refl;
-    closes = λ k l x. eq (facts (is_seen_closed k l x)) refl;
-    hands = λ b. eq (in_hand b) refl;
-    wrong = λ b k. eq (in_wrong_hand b k) refl;
-    by = λ x. eq (struck_by x) refl;
-    idly = λ x y. eq (struck_idly x y) refl;
-    upto = λ k l h. eq (struck_upto e.plan k l h) refl;
-    selfs = λ k l j. eq (covers_self k l j) refl;
-    edges = λ p q. eq (covers_edge p q) refl;
-    working = λ k l. eq (works k l) refl;
-    blocks = λ b. c.blocks b (λ e. cc);
-  }
+  calm_seen_pending : (n m : ℕ) (v : View) → Change s t pending n m v v → Calm e s t
+  calm_seen_pending n m v c = calm_light e s t pending pending_aside (λ r. c.others (key r) (λ z. cc)) n m v v.known v.spare (λ k l x. refl) (λ k l x. refl) (λ k l x. refl) (λ k l x. refl) c
 
-  pub calm_seen_stop : (n m : ℕ) (v : View) → Change s t stop n m v (v) → Calm e s t
-  calm_seen_stop n m v c = let eq = same e s t stop n m v (v) c in let wd = word_same e s t stop n m v (v) c in record {
-    keys = λ r. wd (key r) (λ e. cc);
-    descriptors = λ r. wd (descriptor r) (λ e. cc);
-    notify_words = λ r x. wd (notify r x) (λ e. cc);
-    recoveries = λ r. wd (recovery r) (λ e. cc);
-    posts = λ i r. wd (posted i r) (λ e. cc);
-    turns = λ b. wd (turn b) (λ e. cc);
-    its = λ p. eq (items p) refl;
-    recs = λ p. eq (Rattle.core_state.specs.Counts.noted p) refl;
-    ends = λ i k l. eq (ended i k l) refl;
-    begins = λ i k l. eq (begun i k l) refl;
-    waiting = λ k l q. eq (waits k l q) refl;
-    lifes = λ k l x. eq (facts (is_seen_life k x l)) refl;
-    marks = λ k l x. eq (facts (is_seen_mark k x l)) refl;
-    closes = λ k l x. eq (facts (is_seen_closed k l x)) refl;
-    hands = λ b. eq (in_hand b) refl;
-    wrong = λ b k. eq (in_wrong_hand b k) refl;
-    by = λ x. eq (struck_by x) refl;
-    idly = λ x y. eq (struck_idly x y) refl;
-    upto = λ k l h. eq (struck_upto e.plan k l h) refl;
-    selfs = λ k l j. eq (covers_self k l j) refl;
-    edges = λ p q. eq (covers_edge p q) refl;
-    working = λ k l. eq (works k l) refl;
-    blocks = λ b. c.blocks b (λ e. cc);
-  }
+  calm_seen_stop : (n m : ℕ) (v : View) → Change s t stop n m v v → Calm e s t
+  calm_seen_stop n m v c = calm_light e s t stop stop_aside (λ r. c.others (key r) (λ z. cc)) n m v v.known v.spare (λ k l x. refl) (λ k l x. refl) (λ k l x. refl) (λ k l x. refl) c
 
-  pub calm_spare : (n m : ℕ) (v : View) → Change s t pending n m v (record v { spare = v.spare - 1 }) → Calm e s t
-  calm_spare n m v c = let eq = same e s t pending n m v (record v { spare = v.spare - 1 }) c in let wd = word_same e s t pending n m v (record v { spare = v.spare - 1 }) c in record {
-    keys = λ r. wd (key r) (λ e. cc);
-    descriptors = λ r. wd (descriptor r) (λ e. cc);
-    notify_words = λ r x. wd (notify r x) (λ e. cc);
-    recoveries = λ r. wd (recovery r) (λ e. cc);
-    posts = λ i r. wd (posted i r) (λ e. cc);
-    turns = λ b. wd (turn b) (λ e. cc);
-    its = λ p. eq (items p) refl;
-    recs = λ p. eq (Rattle.core_state.specs.Counts.noted p) refl;
-    ends = λ i k l. eq (ended i k l) refl;
-    begins = λ i k l. eq (begun i k l) refl;
-    waiting = λ k l q. eq (waits k l q) refl;
-    lifes = λ k l x. eq (facts (is_seen_life k x l)) refl;
-    marks = λ k l x. eq (facts (is_seen_mark k x l)) refl;
-    closes = λ k l x. eq (facts (is_seen_closed k l x)) refl;
-    hands = λ b. eq (in_hand b) refl;
-    wrong = λ b k. eq (in_wrong_hand b k) refl;
-    by = λ x. eq (struck_by x) refl;
-    idly = λ x y. eq (struck_idly x y) refl;
-    upto = λ k l h. eq (struck_upto e.plan k l h) refl;
-    selfs = λ k l j. eq (covers_self k l j) refl;
-    edges = λ p q. eq (covers_edge p q) refl;
-    working = λ k l. eq (works k l) refl;
-    blocks = λ b. c.blocks b (λ e. cc);
-  }
+  calm_spare : (n m : ℕ) (v : View) → Change s t pending n m v (record v { spare = v.spare - 1 }) → Calm e s t
+  calm_spare n m v c = calm_light e s t pending pending_aside (λ r. c.others (key r) (λ z. cc)) n m v v.known (v.spare - 1) (λ k l x. refl) (λ k l x. refl) (λ k l x. refl) (λ k l x. refl) c
 
   pub calm_idle_stack : (n m : ℕ) (v : View) → Change s t pending n m v (record v { stacks = without_idle v.stacks }) → Calm e s t
   calm_idle_stack n m v c = let eq = same e s t pending n m v (record v { stacks = without_idle v.stacks }) c in let wd = word_same e s t pending n m v (record v { stacks = without_idle v.stacks }) c in record {
@@ -476,32 +360,10 @@ module _ (e : Setting) (s t : Core) where
           (λ j k l. let x = eq (came j k l) refl in omega (arith, x)) i
 
 module _ (e : Setting) (s t : Core) where
-  pub calm_row : (r0 k0 n : ℕ) (v : View) → Change s t (key r0) n n v (record v { known = known.Row r0 k0 ∷ v.known }) → Calm e s t
-  calm_row r0 k0 n v c = let eq = same e s t (key r0) n n v (record v { known = known.Row r0 k0 ∷ v.known }) c in let wd = word_same e s t (key r0) n n v (record v { known = known.Row r0 k0 ∷ v.known }) c in record {
-    keys = λ r. dite (ℕ_discrete r r0) (λ z. ap (λ y. t.word (key y)) z ∙ c.left_is ∙ sym c.found_is ∙ ap (λ y. s.word (key y)) (sym z)) (λ z. c.others (key r) (λ y. z (let q : r ≡ r0 = cc in q)));
-    descriptors = λ r. wd (descriptor r) (λ e. cc);
-    notify_words = λ r x. wd (notify r x) (λ e. cc);
-    recoveries = λ r. wd (recovery r) (λ e. cc);
-    posts = λ i r. wd (posted i r) (λ e. cc);
-    turns = λ b. wd (turn b) (λ e. cc);
-    its = λ p. eq (items p) refl;
-    recs = λ p. eq (Rattle.core_state.specs.Counts.noted p) refl;
-    ends = λ i k l. eq (ended i k l) refl;
-    begins = λ i k l. eq (begun i k l) refl;
-    waiting = λ k l q. eq (waits k l q) refl;
-    lifes = λ k l x. eq (facts (is_seen_life k x l)) refl;
-    marks = λ k l x. eq (facts (is_seen_mark k x l)) refl;
-    closes = λ k l x. eq (facts (is_seen_closed k l x)) refl;
-    hands = λ b. eq (in_hand b) refl;
-    wrong = λ b k. eq (in_wrong_hand b k) refl;
-    by = λ x. eq (struck_by x) refl;
-    idly = λ x y. eq (struck_idly x y) refl;
-    upto = λ k l h. eq (struck_upto e.plan k l h) refl;
-    selfs = λ k l j. eq (covers_self k l j) refl;
-    edges = λ p q. eq (covers_edge p q) refl;
-    working = λ k l. eq (works k l) refl;
-    blocks = λ b. c.blocks b (λ e. cc);
-  }
+  calm_row : (r0 k0 n : ℕ) (v : View) → Change s t (key r0) n n v (record v { known = known.Row r0 k0 ∷ v.known }) → Calm e s t
+  calm_row r0 k0 n v c = calm_light e s t (key r0) (key_aside r0)
+      (λ r. dite (ℕ_discrete r r0) (λ z. ap (λ y. t.word (key y)) z ∙ c.left_is ∙ sym c.found_is ∙ ap (λ y. s.word (key y)) (sym z)) (λ z. c.others (key r) (λ y. z (let q : r ≡ r0 = cc in q))))
+      n n v (known.Row r0 k0 ∷ v.known) v.spare (λ k l x. refl) (λ k l x. refl) (λ k l x. refl) (λ k l x. refl) c
 
   -- a look or a claim that told whose row it is
   pub keeps_told : (r k : ℕ) (v : View) → r < e.shape.rows → Change s t (key r) (suc k) (suc k) v (record v { known = known.Row r k ∷ v.known }) → Invariant e s → Invariant e t
