@@ -9,5 +9,6 @@ pub mod MoreRecords
 pub mod Frame
 pub mod WeakFrame
 pub mod RecordFrame
+pub mod Tops
 pub mod ItemMoves
 pub mod Tables

@@ -12,7 +12,7 @@ use Rattle.core_state.specs.Views.{blank}
 use Rattle.core_state.specs.declared.block.BlockCells.{BlockCells}
 use Rattle.core_state.specs.declared.job.Job.TheVariants.{Explore, Compute}
 use Rattle.core_state.specs.declared.views.View.{View}
-use Rattle.core_state.proofs.Row.Made.{both}
+use Rattle.core_state.proofs.Base.Counting.{both}
 use Rattle.core_state.proofs.Base.Tables.{stepped_change}
 use Rattle.core_steps.specs.Table.{Plain, Stored, no_store, view_at, home_at, core_by, word_count}
 

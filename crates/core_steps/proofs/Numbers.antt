@@ -18,11 +18,10 @@ use Rattle.core_state.specs.declared.views.Item.TheVariants as item
 use Rattle.core_state.specs.declared.views.View.{View}
 use Rattle.core_state.specs.declared.words.Recovery.{Recovery}
 use Rattle.graph_model.specs.declared.record.Cause.{Cause}
-use Rattle.core_state.proofs.Base.Counting.{eqb_here, three_else, two_here}
+use Rattle.core_state.proofs.Base.Counting.{eqb_here, three_else, two_here, both}
 use Rattle.core_state.proofs.Close.View.{at_top}
 use Rattle.core_state.proofs.Credit.JobView.{popped_items}
 use Rattle.core_state.proofs.Replace.Lost.{taken}
-use Rattle.core_state.proofs.Row.Made.{both}
 use Rattle.core_state.proofs.Row.View.{fewer_items, items_below}
 use Rattle.core_steps.proofs.AnyCore.{IsViewOf, known_has}
 use Rattle.core_steps.proofs.Bound.{greatest, held_life}

@@ -24,7 +24,7 @@ use Rattle.core_state.specs.declared.views.View.{View}
 use Rattle.core_state.proofs.Base.Counting.{eqb_here}
 use Rattle.core_state.proofs.Row.View.{word_known}
 use Rattle.core_state.proofs.Credit.JobView.{and_false}
-use Rattle.core_state.proofs.Row.Made.{push_none}
+use Rattle.core_state.proofs.Base.Tops.{push_none}
 use Rattle.core_state.proofs.Base.Paths.{reaches, distance_below, at_distance}
 use Rattle.core_state.proofs.Settle.Keeps.{fails}
 use Rattle.core_state.proofs.Settle.View.{settled_same}

@@ -1,7 +1,7 @@
 -- What a walk of claims along a key's path leaves of the view of its seat: only the last claim can have made the row.
 use Rattle.std.proofs.Common.{◌≡◌, ◌≢◌, ℕ, zero, suc, ◌+◌, ◌-◌, ◌<◌, ◌≤◌, Bool, true, false, cond, eqb, ne_eqb, List, [], ◌∷◌, arith, sym, ap, refl, ◌∙◌, subst, Option, Some, None}
 use Rattle.core_state.specs.Graph.{Setting}
-use Rattle.core_state.specs.Counts.{word_in, count}
+use Rattle.core_state.specs.Counts.{word_in}
 use Rattle.core_state.specs.Guards.{AtWork}
 use Rattle.core_state.specs.Effects.{after_claim}
 use Rattle.core_state.specs.Events.{after}

@@ -1,5 +1,5 @@
 -- Two cases for a count after one entry was added: the entry is not the one that is counted, or it is that very one.
-use Rattle.std.proofs.Common.{◌≡◌, ◌≢◌, ◌⊎◌, ℕ, ◌+◌, ◌<◌, ◌≤◌, Bool, true, false, eqb, sym, ap, refl, arith, subst, ⊎_elim, inl, inr, eq-eqb}
+use Rattle.std.proofs.Common.{◌≡◌, ◌≢◌, ◌⊎◌, ℕ, ◌+◌, ◌<◌, ◌≤◌, Bool, true, false, ◌&&◌, eqb, sym, ap, refl, arith, subst, ⊎_elim, inl, inr, eq-eqb}
 use mathlib.Core.Logic.{dite}
 use native.Mathlib.Decide.{ℕ_discrete}
 use Rattle.std.proofs.lemmas.Bool.Decides.{eqb_tells}
@@ -59,3 +59,7 @@ not_here a x ne = ⊎_elim (λ z. absurd (ne z.1)) (λ z. ap hit z.0) (eqb_tells
 -- what holds of two numbers and of all other pairs
 pub split2 : (P : ℕ → ℕ → Type 0) (x y : ℕ) → ((a b : ℕ) → two a b x y ≡ false → P a b) → P x y → (a b : ℕ) → P a b
 split2 P x y other here a b = ⊎_elim (λ z. other a b z) (λ z. subst (λ o. P o b) (sym z.1) (subst (λ o. P x o) (sym z.2) here)) (two_tells a b x y)
+
+pub both : (a b : Bool) → (a && b) ≡ true → (a ≡ true) × (b ≡ true)
+both true b e = (refl, e)
+both false b e = absurd cc

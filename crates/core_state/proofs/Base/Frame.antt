@@ -1,5 +1,5 @@
 -- What a step leaves alone: a part of the invariant whose words and whose counts stay. The premises name fields of the views: all counts of items, of records, and so on.
-use Rattle.std.proofs.Common.{◌≡◌, ◌⊎◌, ℕ, ◌+◌, ◌*◌, ◌%◌, ◌/◌, ◌≤◌, ◌<◌, Bool, min, eqb, nat_lt, ◌&&◌, ⊎_elim, inl, inr, arith, sym, ap, ◌∙◌, subst}
+use Rattle.std.proofs.Common.{◌≡◌, ◌⊎◌, ℕ, zero, suc, ◌+◌, ◌*◌, ◌%◌, ◌/◌, ◌≤◌, ◌<◌, Bool, min, eqb, nat_lt, ◌&&◌, ⊎_elim, inl, inr, arith, sym, ap, refl, ◌∙◌, subst}
 use Rattle.core_state.specs.Graph.{Edge, Setting}
 use Rattle.graph_model.specs.declared.plan.Strike.{Strike}
 use Rattle.core_state.specs.Words.{Spot, pending, stop, key, descriptor, notify, recovery, posted, turn, spot_of, life_of, standing_life, replacing}
@@ -8,7 +8,7 @@ use Rattle.core_state.specs.Tests.{is_at, notifies, suspects_block, is_suspect, 
 use Rattle.core_state.specs.Change.{Core, many}
 use Rattle.core_state.specs.Laws.{IsPlace, SpentOnce, ComputedOnce, LivesNamed, SpentByEdge, CausesShown, Shown, Grounded, AllClosed, BlockStruck}
 use Rattle.core_state.specs.Rows.{HasKey, HasRow, Keys, Empty, Standing, Replacing, LifeOf, Lives, Shows, Lists, Content, Facts}
-use Rattle.core_state.specs.Work.{job_count, Jobs, Computings, RootWork, is_made_early}
+use Rattle.core_state.specs.Work.{job_count, posted_count, Jobs, Computings, RootWork, is_made_early}
 use Rattle.core_state.specs.Blocks.{Holds, Blocks}
 use Rattle.core_state.specs.Records.{Records, Causes, Landed, Strikes}
 use Rattle.core_state.specs.Cover.{covers_self, covers_edge, works, Needs, Waiting, Cover, Activity, Faultless, NoFault}
@@ -61,6 +61,11 @@ was a b e z = omega (arith, e, z)
 
 pub all_same : (s t : Core) → SameRecords s t → many t ≡ many s
 all_same s t same = λ i p. same p i
+
+-- no job word of the first n rows changes
+pub posted_same : (p q : Spot → ℕ) (n : ℕ) → ((i : Job) (r : ℕ) → q (posted i r) ≡ p (posted i r)) → posted_count q n ≡ posted_count p n
+posted_same p q zero e = refl
+posted_same p q (suc n) e = let a = posted_same p q n e in let b = e Explore n in let c = e Compute n in omega (arith, a, b, c)
 
 module _ (e : Setting) (s t : Core) where
   pub had : SameKeys s t → (r k : ℕ) → HasKey e t r k → HasKey e s r k

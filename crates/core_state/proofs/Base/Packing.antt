@@ -1,5 +1,5 @@
 -- A word whose bits between the mark and the life are 0 is the packed word of what it shows.
-use Rattle.std.proofs.Common.{◌≡◌, ℕ, ◌+◌, ◌%◌, ◌^◌, ◌<◌, ◌==◌, arith}
+use Rattle.std.proofs.Common.{◌≡◌, ℕ, ◌+◌, ◌%◌, ◌^◌, ◌<◌, arith}
 use Rattle.core_state.specs.Words.{life_of, mark_of, closed_bit, empty_word}
 
 -- an unmarked open notify word of a life is the life's empty word with the ports

@@ -1,9 +1,10 @@
 -- A write of one named word leaves the others.
-use Rattle.std.proofs.Common.{◌≡◌, ◌≢◌, ℕ, ◌+◌, ◌-◌, ◌*◌, ◌/◌, ◌%◌, ◌<◌, List, Bool, true, false, cond, ◌&&◌, nat_lt, eqb, ne_eqb, eq-eqb, set, length, get_or, get_or-set_same, get_or-set_other, sym, ap, refl, ◌∙◌, arith, ltb, ltb-true}
+use Rattle.std.proofs.Common.{◌≡◌, ◌≢◌, ℕ, ◌+◌, ◌-◌, ◌*◌, ◌/◌, ◌%◌, ◌<◌, List, Bool, true, false, cond, nat_lt, eqb, ne_eqb, eq-eqb, set, length, get_or, get_or-set_same, get_or-set_other, sym, ap, refl, ◌∙◌, arith, ltb, ltb-true}
 use Rattle.std.proofs.lemmas.Bool.{lt-ltb, le-ltb}
 use Rattle.std.proofs.lemmas.Nat.{div-mul-add, mod-mul-add, mul-add-lt}
 use Rattle.core_state.specs.Words.{Shape, Spot, pending, stop, key, descriptor, notify, recovery, posted, turn, width, place_of, inside, read}
 use Rattle.core_state.specs.declared.job.Job.TheVariants.{Explore, Compute}
+use Rattle.core_state.proofs.Base.Counting.{both}
 
 abbrev pub in_row : Shape → ℕ → ℕ → Spot
 in_row h r o = cond (eqb o 0) (key r) (cond (eqb o 1) (descriptor r) (cond (ltb o (h.notify_words + 2)) (notify r (o - 2))
@@ -20,10 +21,6 @@ row_name : (h : Shape) (r o n : ℕ) → r < h.rows → o < width h → n ≡ r 
 row_name h r o n low small e =
     let a : n - 2 ≡ r * width h + o = omega arith in
     rw (ne_eqb n 0 (λ z. omega arith), ne_eqb n 1 (λ z. omega arith), a, lt-ltb (r * width h + o) (width h * h.rows) (mul-add-lt r (width h) o h.rows low small), div-mul-add r (width h) o small, mod-mul-add r (width h) o small)
-
-both : (a b : Bool) → (a && b) ≡ true → (a ≡ true) × (b ≡ true)
-both true b e = (refl, e)
-both false b e = absurd cc
 
 pub named : (h : Shape) (a : Spot) → inside h a ≡ true → name_of h (place_of h a) ≡ a
 named h pending e = refl

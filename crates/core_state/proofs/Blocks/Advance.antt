@@ -25,9 +25,8 @@ use Rattle.core_state.specs.declared.views.Stack.{Stack}
 use Rattle.core_state.specs.declared.views.Word.{Word}
 use Rattle.core_state.specs.declared.views.View.{View}
 use Rattle.core_state.specs.Views.{on_top}
-use Rattle.core_state.proofs.Credit.Keeps.{posted_same}
 use Rattle.core_state.proofs.Base.Counting.{bump_is}
-use Rattle.core_state.proofs.Base.Frame.{had, keys_stay, frame_empty}
+use Rattle.core_state.proofs.Base.Frame.{had, keys_stay, frame_empty, posted_same}
 use Rattle.core_state.proofs.Base.ItemMoves.{swapped}
 use Rattle.core_state.proofs.Base.RecordFrame.{wide_content}
 use Rattle.core_state.proofs.Base.WeakFrame.{wide_lives, wide_jobs, wide_causes, wide_strikes, wide_facts, wide_cover, wide_activity, wide_holds}

@@ -26,7 +26,7 @@ use Rattle.core_state.proofs.Row.View.{items_below}
 use Rattle.core_state.proofs.Base.Frame.{had}
 use Rattle.core_state.proofs.Credit.JobParts.{idle_falls}
 use Rattle.core_state.proofs.Credit.JobView.{and_false}
-use Rattle.core_state.proofs.Row.Made.{push_came, push_length}
+use Rattle.core_state.proofs.Base.Tops.{push_came, push_length}
 use Rattle.core_state.proofs.Blocks.AtWork.{key_row, held_here, computing_once, life_named, job_once, all_spent, computing, some_item, unmade_compute}
 use Rattle.core_state.proofs.Base.WeakFrame.{wide_no_fault}
 

@@ -30,7 +30,7 @@ use Rattle.core_state.proofs.Base.Counting.{bump_is}
 use Rattle.core_state.proofs.Base.Frame.{SameRecords, frame_records}
 use Rattle.core_state.proofs.Base.MoreRecords.{block_struck_grows}
 use Rattle.core_state.proofs.Blocks.Home.{hand_left, wrong_falls, given_blocks}
-use Rattle.core_state.proofs.Row.Made.{push_came, push_length}
+use Rattle.core_state.proofs.Base.Tops.{push_came, push_length}
 use Rattle.core_state.proofs.Strike.Missed.{missed_is, missed_struck}
 use Rattle.core_state.proofs.Strike.Once.{one_strike}
 use Rattle.core_state.proofs.Strike.Next.{next_strike_is, not_made}

@@ -30,12 +30,11 @@ use Rattle.core_state.specs.declared.views.Word.{Word}
 use Rattle.core_state.specs.declared.views.View.{View}
 use Rattle.core_state.proofs.Blocks.Advance.{Onward, turn_onward, advanced_items}
 use Rattle.core_state.proofs.Blocks.BadInput.{writer_row, bad_shown, none_shown}
-use Rattle.core_state.proofs.Credit.Keeps.{posted_same}
 use Rattle.core_state.proofs.Base.Counting.{bump_is, two_here, two_tells}
-use Rattle.core_state.proofs.Base.Frame.{SameRecords, keys_stay, frame_empty, frame_content, frame_records, same_holds}
+use Rattle.core_state.proofs.Base.Frame.{SameRecords, keys_stay, frame_empty, frame_content, frame_records, same_holds, posted_same}
 use Rattle.core_state.proofs.Blocks.Home.{hand_left, wrong_falls, given_blocks}
 use Rattle.core_state.proofs.Credit.JobView.{and_false}
-use Rattle.core_state.proofs.Row.Made.{push_came, push_length}
+use Rattle.core_state.proofs.Base.Tops.{push_came, push_length}
 use Rattle.core_state.proofs.Blocks.GoodRead.{ReadsBad, no_strike_met, keeps_unless_bad}
 use Rattle.core_state.proofs.Spend.View.{and_fails}
 use Rattle.core_state.proofs.Replace.Suspects.{descriptor_low, cause_tells}

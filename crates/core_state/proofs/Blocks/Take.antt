@@ -22,10 +22,9 @@ use Rattle.core_state.specs.declared.views.Word.{Word}
 use Rattle.core_state.specs.declared.views.Word.TheVariants as word
 use Rattle.core_state.specs.declared.views.View.{View}
 use Rattle.core_state.proofs.Blocks.Blame.{written_life, life_replaced}
-use Rattle.core_state.proofs.Credit.Keeps.{posted_same}
 use Rattle.core_state.proofs.Base.Counting.{bump_is, eqb_here, two_here}
 use Rattle.core_state.proofs.Blocks.Versions.{version_written}
-use Rattle.core_state.proofs.Base.Frame.{frame_keys, frame_empty, frame_lives, frame_content, frame_facts, frame_jobs, frame_computings, frame_root, frame_blocks, same_holds, frame_records, frame_causes, frame_strikes, frame_cover, frame_activity, frame_no_fault}
+use Rattle.core_state.proofs.Base.Frame.{frame_keys, frame_empty, frame_lives, frame_content, frame_facts, frame_jobs, frame_computings, frame_root, frame_blocks, same_holds, frame_records, frame_causes, frame_strikes, frame_cover, frame_activity, frame_no_fault, posted_same}
 
 -- only what a view has in hand changes, and one turn word
 module _ (e : Setting) (s t : Core) (b n m : ℕ) (v : View) (hs : List Hand) (c : Change s t (turn b) n m v (record v { hands = hs })) (inv : Invariant e s) where

@@ -32,7 +32,7 @@ use Rattle.core_state.proofs.Blocks.Versions.{many_some, version_written, versio
 use Rattle.core_state.proofs.Base.Frame.{had}
 use Rattle.core_state.proofs.Blocks.Home.{hand_left, wrong_falls, none_has, other_hand, given_blocks}
 use Rattle.core_state.proofs.Credit.JobView.{and_false}
-use Rattle.core_state.proofs.Row.Made.{push_came, push_length}
+use Rattle.core_state.proofs.Base.Tops.{push_came, push_length}
 use Rattle.core_state.proofs.Blocks.AtWork.{key_row, key_reached, held_here, computing_once, life_named, job_once, computing, some_item, not_written}
 
 -- closing carries the job that computing carried

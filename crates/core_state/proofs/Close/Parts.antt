@@ -31,10 +31,9 @@ use Rattle.core_state.specs.declared.views.Word.{Word}
 use Rattle.core_state.specs.declared.views.Word.TheVariants as word
 use Rattle.core_state.specs.declared.views.View.{View}
 use Rattle.core_state.proofs.Base.Bits.{bit_set_here, bit_set_else, life_set, set_low}
-use Rattle.core_state.proofs.Credit.Keeps.{posted_same}
 use Rattle.core_state.proofs.Base.Counting.{bump_is, three_here, three_apart, three_else, two_here, two_tells}
 use Rattle.core_state.proofs.Close.View.{ClosedView, listed, from_bit, close_two}
-use Rattle.core_state.proofs.Base.Frame.{SameKeys, keys_stay, had}
+use Rattle.core_state.proofs.Base.Frame.{SameKeys, keys_stay, had, posted_same}
 use Rattle.core_state.proofs.Spend.View.{seen_other}
 use Rattle.core_state.proofs.Replace.Lives.{replaced_below}
 use Rattle.core_state.proofs.Replace.Suspects.{notify_low}

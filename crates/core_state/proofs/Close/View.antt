@@ -23,7 +23,7 @@ use Rattle.core_state.specs.declared.views.Stack.{Stack}
 use Rattle.core_state.specs.declared.views.Word.TheVariants as word
 use Rattle.core_state.specs.declared.views.View.{View}
 use Rattle.core_state.proofs.Base.Counting.{bump_is, eqb_here, hit_le}
-use Rattle.core_state.proofs.Row.Made.{push_came, push_length}
+use Rattle.core_state.proofs.Base.Tops.{push_came, push_length}
 use Rattle.core_state.proofs.Base.ItemMoves.{swapped}
 use Rattle.core_state.proofs.Spend.Keeps.{pushed}
 

@@ -21,7 +21,7 @@ use Rattle.core_state.specs.declared.views.Item.TheVariants as item
 use Rattle.core_state.specs.declared.views.Stack.{Stack}
 use Rattle.core_state.specs.declared.views.View.{View}
 use Rattle.core_state.proofs.Base.Counting.{two_here}
-use Rattle.core_state.proofs.Row.Made.{push_came, push_length}
+use Rattle.core_state.proofs.Base.Tops.{push_came, push_length}
 use Rattle.core_state.proofs.Credit.JobView.{job_hit, brought, first_item, arrived_items, arrived_aside, arrived_came, arrived_length, popped_items, popped_aside}
 use Rattle.core_state.proofs.Plan.Passes.{PassesNone}
 use Rattle.core_state.proofs.Credit.JobParts.{Aside, JobView, job_keeps, job_none, job_passed}

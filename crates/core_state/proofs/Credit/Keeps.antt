@@ -1,5 +1,5 @@
 -- Steps that change only credits, empty stacks, and what views know of pending and stop.
-use Rattle.std.proofs.Common.{◌≡◌, ◌≢◌, ℕ, zero, suc, ◌+◌, ◌-◌, ◌<◌, ◌≤◌, Bool, true, false, cond, eqb, min, List, [], ◌∷◌, length, ⊎_elim, arith, sym, ap, refl, ◌∙◌, subst}
+use Rattle.std.proofs.Common.{◌≡◌, ◌≢◌, ℕ, suc, ◌+◌, ◌-◌, ◌<◌, ◌≤◌, Bool, true, false, cond, eqb, min, List, [], ◌∷◌, length, ⊎_elim, arith, sym, ap, refl, ◌∙◌, subst}
 use mathlib.Core.Logic.{dite}
 use native.Mathlib.Decide.{ℕ_discrete}
 use Rattle.core_state.specs.Graph.{Setting}
@@ -10,7 +10,7 @@ use Rattle.core_state.specs.Tests.{is_at, notifies, suspects_block, is_created, 
 use Rattle.core_state.specs.Change.{Core, Change}
 use Rattle.core_state.specs.Cover.{covers_self, covers_edge, works}
 use Rattle.core_state.specs.Rows.{HasKey, Keys}
-use Rattle.core_state.specs.Work.{posted_count, Credits}
+use Rattle.core_state.specs.Work.{Credits}
 use Rattle.core_state.specs.Invariant.{Invariant}
 use Rattle.core_state.specs.Guards.{CanBuy, CanDropCredit}
 use Rattle.core_state.specs.Effects.{after_buy, after_drop_credit, after_stop, after_load_pending, after_load_stop, has_idle, is_idle_stack, without_idle}
@@ -25,12 +25,7 @@ use Rattle.core_state.specs.declared.views.Word.{Word}
 use Rattle.core_state.specs.declared.views.Word.TheVariants as word
 use Rattle.core_state.specs.declared.views.View.{View}
 use Rattle.core_state.proofs.Base.Counting.{two_tells}
-use Rattle.core_state.proofs.Base.Frame.{SameItems, SameRecords, SameEnded, SameBegun, SameWaits, SameKeys, SameDescriptors, SameNotify, SameRecovery, SamePosted, was, keys_stay, frame_empty, frame_lives, frame_content, frame_jobs, frame_computings, frame_root, frame_blocks, frame_records, frame_causes, frame_strikes, frame_facts, frame_cover, frame_activity, frame_no_fault}
-
--- no job word of the first n rows changes
-pub posted_same : (p q : Spot → ℕ) (n : ℕ) → ((i : Job) (r : ℕ) → q (posted i r) ≡ p (posted i r)) → posted_count q n ≡ posted_count p n
-posted_same p q zero e = refl
-posted_same p q (suc n) e = let a = posted_same p q n e in let b = e Explore n in let c = e Compute n in omega (arith, a, b, c)
+use Rattle.core_state.proofs.Base.Frame.{SameItems, SameRecords, SameEnded, SameBegun, SameWaits, SameKeys, SameDescriptors, SameNotify, SameRecovery, SamePosted, was, keys_stay, frame_empty, frame_lives, frame_content, frame_jobs, frame_computings, frame_root, frame_blocks, frame_records, frame_causes, frame_strikes, frame_facts, frame_cover, frame_activity, frame_no_fault, posted_same}
 
 -- all that such a step leaves as it was
 pub record Calm (e : Setting) (s t : Core) : Type 0 where

@@ -16,7 +16,7 @@ use Rattle.core_state.specs.declared.job.Job.TheVariants.{Compute}
 use Rattle.core_state.specs.declared.views.Item.{Item}
 use Rattle.core_state.specs.declared.views.Item.TheVariants as item
 use Rattle.core_state.proofs.Row.View.{fewer_items}
-use Rattle.core_state.proofs.Row.Made.{both}
+use Rattle.core_state.proofs.Base.Counting.{both}
 use Rattle.core_state.proofs.End.Quiet.{all_or_one}
 
 renews_life : (k l n : ℕ) (x : Item) → is_renew_at k l n x ≡ true → is_renew_of k l x ≡ true

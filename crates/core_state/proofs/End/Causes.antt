@@ -23,12 +23,12 @@ use Rattle.graph_model.specs.declared.record.Hit.{Hit}
 use Rattle.graph_model.specs.declared.record.Hit.TheVariants as hit_of
 use Rattle.graph_model.specs.declared.record.Record.{Record}
 use Rattle.graph_model.specs.declared.record.Record.TheVariants as record_of
-use Rattle.core_state.proofs.Base.Counting.{eqb_here, two_tells}
+use Rattle.core_state.proofs.Base.Counting.{eqb_here, two_tells, both}
 use Rattle.core_state.proofs.Blocks.Versions.{many_some, version_written}
 use Rattle.core_state.proofs.Row.View.{fewer_items}
 use Rattle.core_state.proofs.End.Grounded.{by_descriptor, by_notify, by_struck, by_other}
 use Rattle.core_state.proofs.End.Lists.{is_other_than, named_key, struck_other, replaced_once, within, fewer, present, count_below}
-use Rattle.core_state.proofs.Row.Made.{both, replaced_of, suspect_at}
+use Rattle.core_state.proofs.Row.Made.{replaced_of, suspect_at}
 use Rattle.core_state.proofs.Replace.Suspects.{cause_tells}
 
 -- an input of a key is found among its first ones

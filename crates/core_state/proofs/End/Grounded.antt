@@ -11,9 +11,8 @@ use Rattle.graph_model.specs.declared.record.Cause.TheVariants as cause
 use Rattle.graph_model.specs.declared.record.Found.TheVariants as found
 use Rattle.graph_model.specs.declared.record.Record.{Record}
 use Rattle.graph_model.specs.declared.record.Record.TheVariants as record_of
-use Rattle.core_state.proofs.Base.Counting.{bump_is, hit_le}
+use Rattle.core_state.proofs.Base.Counting.{bump_is, hit_le, both}
 use Rattle.core_state.proofs.End.Lists.{count_below}
-use Rattle.core_state.proofs.Row.Made.{both}
 
 -- where one test implies the other and both count the same, they agree on each entry, and so do tests that follow them
 same_count : {A : Type 0} (p q f h : A → Bool) → ((x : A) → p x ≡ true → q x ≡ true) → ((x : A) → p x ≡ q x → f x ≡ h x) → (xs : List A) → count p xs ≡ count q xs → count f xs ≡ count h xs

@@ -14,9 +14,9 @@ use Rattle.graph_model.specs.declared.record.Hit.{Hit}
 use Rattle.graph_model.specs.declared.record.Hit.TheVariants as hit_of
 use Rattle.graph_model.specs.declared.record.Record.{Record}
 use Rattle.graph_model.specs.declared.record.Record.TheVariants as record_of
-use Rattle.core_state.proofs.Base.Counting.{bump_is, eqb_here, hit_le, two_here}
+use Rattle.core_state.proofs.Base.Counting.{bump_is, eqb_here, hit_le, two_here, both}
 use Rattle.core_state.proofs.Blocks.Versions.{count_some, many_some}
-use Rattle.core_state.proofs.Row.Made.{both, spent_of, computed_of, written_of, closed_of, replaced_of}
+use Rattle.core_state.proofs.Row.Made.{spent_of, computed_of, written_of, closed_of, replaced_of}
 
 -- what passes one test passes another
 pub count_below : {A : Type 0} (p q : A → Bool) → ((x : A) → p x ≡ true → q x ≡ true) → (xs : List A) → count p xs ≤ count q xs

@@ -23,9 +23,8 @@ use Rattle.core_state.specs.declared.views.Known.TheVariants as known
 use Rattle.core_state.specs.declared.views.Word.{Word}
 use Rattle.core_state.specs.declared.views.Word.TheVariants as word
 use Rattle.core_state.specs.declared.views.View.{View}
-use Rattle.core_state.proofs.Base.Counting.{eqb_here}
+use Rattle.core_state.proofs.Base.Counting.{eqb_here, both}
 use Rattle.core_state.proofs.Seats.View.{count_both}
-use Rattle.core_state.proofs.Row.Made.{both}
 use Rattle.core_state.proofs.Lines.Outcomes.{leaves}
 
 -- no fact of a row is among these

@@ -31,7 +31,7 @@ use Rattle.core_state.proofs.Load.DescriptorItems.Loading.{drops}
 use Rattle.core_state.proofs.Load.DescriptorItems.{Loading, Loaded, goes, comes, loaded_view, same_before, fewer_before, keeps_suspects, held_ends, ends_here, at_key, works_else, works_here, port_goes, made_goes}
 use Rattle.core_state.proofs.Load.Recovery.{life_any, mark_any, same_spot, no_turn, row_is, at_row, all_words}
 use Rattle.core_state.proofs.Load.SameWord.{LookView, look_keeps}
-use Rattle.core_state.proofs.Row.Made.{push_came, push_length}
+use Rattle.core_state.proofs.Base.Tops.{push_came, push_length}
 use Rattle.core_state.proofs.Spend.View.{seen_other}
 use Rattle.core_state.proofs.Replace.Suspects.{descriptor_low, none_struck}
 

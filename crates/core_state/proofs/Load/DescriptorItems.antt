@@ -19,9 +19,8 @@ use Rattle.core_state.specs.declared.views.Item.TheVariants as item
 use Rattle.core_state.specs.declared.views.Ended.{Ended}
 use Rattle.core_state.specs.declared.views.Stack.{Stack}
 use Rattle.core_state.specs.declared.views.View.{View}
-use Rattle.core_state.proofs.Base.Counting.{bump_is, bump_le, two_tells, two_here, not_two}
+use Rattle.core_state.proofs.Base.Counting.{bump_is, bump_le, two_tells, two_here, not_two, both}
 use Rattle.core_state.proofs.Credit.JobView.{and_false}
-use Rattle.core_state.proofs.Row.Made.{both}
 use Rattle.core_state.proofs.Base.ItemMoves.{port_over}
 
 -- nothing; computing is loaded, dropped for a later life, or becomes a suspect; a port leaves below a suspect, or since its place is spent

@@ -29,11 +29,11 @@ use Rattle.core_state.specs.declared.views.View.{View}
 use Rattle.core_state.proofs.Load.NotifyItems.{Blaming, Above, IsBlaming, Blamed, comes, blamed_view, none_comes, comes_at}
 use Rattle.core_state.proofs.Load.NotifyItems.Blaming.{nothing, marks, closes}
 use Rattle.core_state.proofs.Blocks.Blame.{cause_here}
-use Rattle.core_state.proofs.Base.Counting.{bump_is, eqb_here, not_two, three_else, two_here, two_tells}
+use Rattle.core_state.proofs.Base.Counting.{bump_is, eqb_here, not_two, three_else, two_here, two_tells, both}
 use Rattle.core_state.proofs.Credit.JobView.{and_false}
 use Rattle.core_state.proofs.Load.Recovery.{life_any, mark_any, same_spot, no_turn, suspect_carries, row_is, at_row, all_words}
+use Rattle.core_state.proofs.Base.Tops.{push_came, push_length}
 use Rattle.core_state.proofs.Load.SameWord.{LookView, look_keeps}
-use Rattle.core_state.proofs.Row.Made.{both, push_came, push_length}
 use Rattle.core_state.proofs.Spend.View.{seen_other}
 use Rattle.core_state.proofs.Replace.Suspects.{notify_low, cause_tells}
 

@@ -15,9 +15,8 @@ use Rattle.core_state.specs.declared.views.Item.{Item}
 use Rattle.core_state.specs.declared.views.Item.TheVariants as item
 use Rattle.core_state.specs.declared.views.Stack.{Stack}
 use Rattle.core_state.specs.declared.views.View.{View}
-use Rattle.core_state.proofs.Base.Counting.{bump_is}
+use Rattle.core_state.proofs.Base.Counting.{bump_is, both}
 use Rattle.core_state.proofs.Load.DescriptorItems.{one_more}
-use Rattle.core_state.proofs.Row.Made.{both}
 
 -- nothing; or above the suspect of life l of a for the version d of the block b comes one of the writer, for a mark or for the same cause
 pub data Blaming : Type 0 where

@@ -25,7 +25,7 @@ use Rattle.core_state.specs.declared.views.View.{View}
 use Rattle.core_state.proofs.Base.Counting.{bump_is, two_tells}
 use Rattle.core_state.proofs.Credit.JobView.{and_false}
 use Rattle.core_state.proofs.Load.SameWord.{LookView, look_keeps}
-use Rattle.core_state.proofs.Row.Made.{push_came, push_length}
+use Rattle.core_state.proofs.Base.Tops.{push_came, push_length}
 use Rattle.core_state.proofs.Spend.View.{seen_other, seen_life, seen_mark}
 use Rattle.core_state.proofs.Register.View.{seen_life_at, seen_mark_at}
 use Rattle.core_state.proofs.Replace.Suspects.{descriptor_high}

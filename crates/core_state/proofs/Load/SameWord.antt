@@ -18,8 +18,7 @@ use Rattle.core_state.specs.declared.job.Job.{Job}
 use Rattle.core_state.specs.declared.job.Job.TheVariants.{Explore, Compute}
 use Rattle.core_state.specs.declared.views.Word.{Word}
 use Rattle.core_state.specs.declared.views.View.{View}
-use Rattle.core_state.proofs.Credit.Keeps.{posted_same}
-use Rattle.core_state.proofs.Base.Frame.{SameRecords, had, keys_stay, frame_empty, frame_content, frame_blocks, frame_records}
+use Rattle.core_state.proofs.Base.Frame.{SameRecords, had, keys_stay, frame_empty, frame_content, frame_blocks, frame_records, posted_same}
 use Rattle.core_state.proofs.Base.WeakFrame.{wide_needs, wide_waiting, wide_lives, wide_jobs, wide_computings, wide_root_work, wide_causes, wide_strikes, wide_facts, wide_no_fault}
 
 -- a renewal in some view is work on

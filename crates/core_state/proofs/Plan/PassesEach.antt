@@ -26,9 +26,8 @@ use Rattle.core_state.specs.declared.views.Item.{Item}
 use Rattle.core_state.specs.declared.views.Item.TheVariants as item
 use Rattle.core_state.specs.declared.views.Stack.{Stack}
 use Rattle.core_state.specs.declared.views.View.{View}
-use Rattle.core_state.proofs.Base.Counting.{bump_is, two_here, two_tells, three_else}
+use Rattle.core_state.proofs.Base.Counting.{bump_is, two_here, two_tells, three_else, both}
 use Rattle.core_state.proofs.Load.DescriptorItems.{loaded_view, same_before}
-use Rattle.core_state.proofs.Row.Made.{both}
 use Rattle.core_state.proofs.Base.ItemMoves.{moved_still, swapped}
 use Rattle.core_state.proofs.Plan.Passes.{AllMade, left_none, view_made, same_closed, passes_keep}
 use Rattle.core_state.proofs.Settle.View.{settled_falls}

@@ -29,7 +29,7 @@ use Rattle.core_state.proofs.Load.NotifyItems.{blamed_view, none_comes}
 use Rattle.core_state.proofs.Credit.Keeps.{idle_items}
 use Rattle.core_state.proofs.Base.Counting.{bump_is}
 use Rattle.core_state.proofs.Load.Recovery.{on_same}
-use Rattle.core_state.proofs.Row.Made.{push_none}
+use Rattle.core_state.proofs.Base.Tops.{push_none}
 use Rattle.core_state.proofs.Base.ItemMoves.{moved_still, swapped}
 use Rattle.core_state.proofs.Plan.Passes.{PassesNone}
 use Rattle.core_state.proofs.Row.Look.{tops_same}

@@ -17,10 +17,10 @@ use Rattle.core_state.specs.Views.{has_word}
 use Rattle.graph_model.specs.declared.plan.Point.TheVariants as point
 use Rattle.graph_model.specs.declared.record.Hit.{Hit}
 use Rattle.core_state.specs.declared.views.View.{View}
-use Rattle.core_state.proofs.Base.Counting.{bump_is}
+use Rattle.core_state.proofs.Base.Counting.{bump_is, both}
 use Rattle.core_state.proofs.Blocks.Versions.{many_some}
 use Rattle.core_state.proofs.End.Lists.{count_below}
-use Rattle.core_state.proofs.Row.Made.{both, closed_of}
+use Rattle.core_state.proofs.Row.Made.{closed_of}
 use Rattle.core_state.proofs.Plan.Prevents.{none_above}
 use Rattle.core_state.proofs.End.Quiet.{no_items, row_named}
 

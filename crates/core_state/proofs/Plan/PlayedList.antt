@@ -15,10 +15,9 @@ use Rattle.graph_model.specs.declared.record.Hit.{Hit}
 use Rattle.graph_model.specs.declared.record.Hit.TheVariants as hit_of
 use Rattle.graph_model.specs.declared.record.Record.{Record}
 use Rattle.graph_model.specs.declared.record.Record.TheVariants as record_of
-use Rattle.core_state.proofs.Base.Counting.{two_tells}
+use Rattle.core_state.proofs.Base.Counting.{two_tells, both}
 use Rattle.core_state.proofs.Blocks.Versions.{many_some}
 use Rattle.core_state.proofs.End.Lists.{is_other_than, struck_other, fewer, present}
-use Rattle.core_state.proofs.Row.Made.{both}
 use Rattle.core_state.proofs.Plan.Played.{records_planned, records_played}
 
 from_any : (k l : ℕ) (h : Hit) (x : Record) → is_struck_from k l h x ≡ true → is_any_struck x ≡ true

@@ -28,10 +28,9 @@ use Rattle.core_state.specs.declared.views.Item.TheVariants as item
 use Rattle.core_state.specs.declared.views.Stack.{Stack}
 use Rattle.core_state.specs.declared.views.Word.TheVariants as word
 use Rattle.core_state.specs.declared.views.View.{View}
-use Rattle.core_state.proofs.Base.Counting.{bump_is, two_here, two_tells, three_here, three_else}
+use Rattle.core_state.proofs.Base.Counting.{bump_is, two_here, two_tells, three_here, three_else, both}
 use Rattle.core_state.proofs.Close.Keeps.{row_is, some_life, seen_plain, seen_life}
 use Rattle.core_state.proofs.Close.View.{LeftView, ClosedView, stale_view, struck_view, closed_view}
-use Rattle.core_state.proofs.Row.Made.{both}
 use Rattle.core_state.proofs.Base.ItemMoves.{moved_still, swapped}
 use Rattle.core_state.proofs.Plan.PassesEach.{view, row, no_item, no_record}
 use Rattle.core_state.proofs.Plan.PassesNone.{plain}

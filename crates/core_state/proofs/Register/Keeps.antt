@@ -19,7 +19,7 @@ use Rattle.core_state.specs.declared.views.Item.{Item}
 use Rattle.core_state.specs.declared.views.Item.TheVariants as item
 use Rattle.core_state.specs.declared.views.View.{View}
 use Rattle.core_state.proofs.Base.Counting.{bump_is, eqb_here}
-use Rattle.core_state.proofs.Row.Made.{push_came, push_length}
+use Rattle.core_state.proofs.Base.Tops.{push_came, push_length}
 use Rattle.core_state.proofs.Base.ItemMoves.{Serves, moved_selfs, moved_edges, moved_ends, serves_stack}
 use Rattle.core_state.proofs.Register.Parts.{register_keeps}
 use Rattle.core_state.proofs.Spend.Keeps.{pushed}

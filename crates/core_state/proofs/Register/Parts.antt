@@ -31,14 +31,13 @@ use Rattle.core_state.specs.declared.views.Word.{Word}
 use Rattle.core_state.specs.declared.views.Word.TheVariants as word
 use Rattle.core_state.specs.declared.views.View.{View}
 use Rattle.core_state.proofs.Base.Bits.{bit_set_here, bit_set_else, life_set, set_low}
-use Rattle.core_state.proofs.Credit.Keeps.{posted_same}
 use Rattle.core_state.specs.Words.{closed_bit}
 use Rattle.core_state.specs.Rows.{HasRow}
 use Rattle.core_state.specs.Cover.{Waiting}
 use Rattle.core_state.specs.Effects.{seen}
 use Rattle.core_state.proofs.Base.Counting.{three_here, three_apart, three_else, two_tells, hit_le, bump_is}
 use Rattle.core_state.proofs.Base.ItemMoves.{Still}
-use Rattle.core_state.proofs.Base.Frame.{SameKeys, SameRecords, keys_stay, had, same_shows, frame_blocks, frame_records}
+use Rattle.core_state.proofs.Base.Frame.{SameKeys, SameRecords, keys_stay, had, same_shows, frame_blocks, frame_records, posted_same}
 use Rattle.core_state.proofs.Spend.View.{and_fails, and_low, seen_other}
 use Rattle.core_state.proofs.Base.WeakFrame.{wide_needs, wide_waiting, wide_lives, wide_jobs, wide_computings, wide_root, wide_causes, wide_strikes, wide_facts, wide_activity, wide_no_fault}
 use Rattle.core_state.proofs.Replace.Suspects.{notify_low, none_struck}

@@ -16,10 +16,9 @@ use Rattle.graph_model.specs.declared.record.Cause.{Cause}
 use Rattle.core_state.specs.declared.views.Stack.{Stack}
 use Rattle.core_state.specs.declared.views.Word.TheVariants as word
 use Rattle.core_state.specs.declared.views.View.{View}
-use Rattle.core_state.proofs.Base.Counting.{eqb_here, two_here}
+use Rattle.core_state.proofs.Base.Counting.{eqb_here, two_here, both}
 use Rattle.core_state.proofs.Replace.Won.{elect_view}
 use Rattle.core_state.proofs.Load.Recovery.{keeps_saw}
-use Rattle.core_state.proofs.Row.Made.{both}
 use Rattle.core_state.proofs.Replace.Lost.{taken, gone_keeps}
 use Rattle.core_state.proofs.Replace.WonRest.{won_keeps}
 

@@ -13,7 +13,7 @@ use Rattle.core_state.specs.Records.{Records}
 use Rattle.core_state.specs.declared.views.Item.{Item}
 use Rattle.core_state.specs.declared.views.Item.TheVariants as item
 use Rattle.core_state.proofs.Row.View.{fewer_items}
-use Rattle.core_state.proofs.Row.Made.{both}
+use Rattle.core_state.proofs.Base.Counting.{both}
 
 -- a life that is being replaced is renewed by some view
 pub being_renewed : (e : Setting) (s : Core) (r k : ℕ) → Sums s → Lives e s → HasKey e s r k → replacing (s.word (recovery r)) ≡ 1 → 0 < s.total (items (is_renew_of k (standing_life (s.word (recovery r)))))

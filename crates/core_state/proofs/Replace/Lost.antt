@@ -21,7 +21,7 @@ use Rattle.core_state.specs.declared.views.View.{View}
 use Rattle.core_state.proofs.Base.Counting.{not_two, two_tells}
 use Rattle.core_state.proofs.Load.Recovery.{life_any, mark_any, same_spot, no_turn, suspect_carries}
 use Rattle.core_state.proofs.Load.SameWord.{LookWith, WorksOn, renewal_works, look_keeps_where}
-use Rattle.core_state.proofs.Row.Made.{push_came, push_length}
+use Rattle.core_state.proofs.Base.Tops.{push_came, push_length}
 use Rattle.core_state.proofs.Base.ItemMoves.{swapped}
 use Rattle.core_state.proofs.Spend.View.{seen_other}
 use Rattle.core_state.proofs.Replace.Lives.{being_renewed}

@@ -23,14 +23,13 @@ use Rattle.core_state.specs.declared.views.Known.{Known}
 use Rattle.core_state.specs.declared.views.Word.{Word}
 use Rattle.core_state.specs.declared.views.Word.TheVariants as word
 use Rattle.core_state.specs.declared.views.View.{View}
-use Rattle.core_state.proofs.Credit.Keeps.{posted_same}
-use Rattle.core_state.proofs.Base.Counting.{eqb_here, three_else}
+use Rattle.core_state.proofs.Base.Counting.{eqb_here, three_else, both}
 use Rattle.core_state.proofs.Row.View.{fewer_items}
-use Rattle.core_state.proofs.Base.Frame.{SameKeys, SameRecords, SamePosted, SameWaits, had, keys_stay, frame_blocks}
+use Rattle.core_state.proofs.Base.Frame.{SameKeys, SameRecords, SamePosted, SameWaits, had, keys_stay, frame_blocks, posted_same}
 use Rattle.core_state.proofs.Credit.JobView.{popped_items, same_key}
 use Rattle.core_state.proofs.Replace.LaterLife.{LaterShown, later_facts, landed_descriptor, landed_notify}
+use Rattle.core_state.proofs.Base.Tops.{push_came, push_length}
 use Rattle.core_state.proofs.Load.Recovery.{same_spot}
-use Rattle.core_state.proofs.Row.Made.{both, push_came, push_length}
 use Rattle.core_state.proofs.Base.WeakFrame.{wide_computings, wide_root, wide_causes, strikes_left}
 
 -- a word of a row that shows a life

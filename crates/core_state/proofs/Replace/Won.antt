@@ -27,12 +27,11 @@ use Rattle.core_state.specs.declared.views.Word.{Word}
 use Rattle.core_state.specs.declared.views.Word.TheVariants as word
 use Rattle.core_state.specs.declared.views.View.{View}
 use Rattle.core_state.proofs.Blocks.Advance.{advanced_items}
-use Rattle.core_state.proofs.Credit.Keeps.{posted_same}
-use Rattle.core_state.proofs.Base.Counting.{bump_is, eqb_here, three_here, three_apart, not_here}
+use Rattle.core_state.proofs.Base.Counting.{bump_is, eqb_here, three_here, three_apart, not_here, both}
 use Rattle.core_state.proofs.Row.View.{fewer_items}
-use Rattle.core_state.proofs.Base.Frame.{SameKeys, keys_stay, had}
+use Rattle.core_state.proofs.Base.Frame.{SameKeys, keys_stay, had, posted_same}
+use Rattle.core_state.proofs.Base.Tops.{push_came, push_length}
 use Rattle.core_state.proofs.Load.Recovery.{life_any, mark_any}
-use Rattle.core_state.proofs.Row.Made.{both, push_came, push_length}
 use Rattle.core_state.proofs.Base.RecordFrame.{wide_content}
 use Rattle.core_state.proofs.Spend.View.{seen_other}
 use Rattle.core_state.proofs.Base.WeakFrame.{row_lives, jobs_later, wide_computings, wide_facts}

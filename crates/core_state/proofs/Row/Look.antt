@@ -23,7 +23,7 @@ use Rattle.core_state.specs.declared.views.Word.TheVariants as word
 use Rattle.core_state.specs.declared.views.View.{View}
 use Rattle.core_state.proofs.Row.View.{no_row}
 use Rattle.core_state.proofs.Load.SameWord.{LookView, look_keeps}
-use Rattle.core_state.proofs.Row.Made.{push_came, push_length}
+use Rattle.core_state.proofs.Base.Tops.{push_came, push_length}
 
 module _ (g : Graph) (rows r : ℕ) (xs : List Known) where
   -- a test that doesn't see how many ports are left to enter again

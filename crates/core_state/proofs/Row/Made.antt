@@ -1,12 +1,12 @@
 -- A claim that made the row keeps every part.
-use Rattle.std.proofs.Common.{◌≡◌, ◌≢◌, ◌⊎◌, ℕ, suc, ◌+◌, ◌*◌, ◌/◌, ◌%◌, ◌<◌, ◌≤◌, Bool, true, false, cond, eqb, ne_eqb, min, ◌&&◌, List, [], ◌∷◌, length, ⊎_elim, inl, inr, arith, sym, ap, refl, ◌∙◌, subst}
+use Rattle.std.proofs.Common.{◌≡◌, ◌≢◌, ◌⊎◌, ℕ, suc, ◌+◌, ◌*◌, ◌/◌, ◌%◌, ◌<◌, ◌≤◌, Bool, true, false, cond, eqb, ne_eqb, min, ◌&&◌, List, [], ◌∷◌, ⊎_elim, inl, inr, arith, sym, ap, refl, ◌∙◌, subst}
 use mathlib.Core.Logic.{dite}
 use native.Mathlib.Decide.{ℕ_discrete}
 use Rattle.std.proofs.lemmas.Nat.Bits.{bit_at-zero}
 use Rattle.core_state.specs.Graph.{Edge, Setting, Sound, Reached}
 use Rattle.core_state.specs.Graph.Reached.{through}
 use Rattle.core_state.specs.Words.{Spot, pending, key, descriptor, notify, recovery, posted, life_of, standing_life, replacing}
-use Rattle.core_state.specs.Counts.{hit, bump, count, items, in_stacks, noted, knows_row, ended, waits, stack_count, spare, too_many}
+use Rattle.core_state.specs.Counts.{hit, bump, items, in_stacks, noted, knows_row, ended, waits, stack_count, spare, too_many}
 use Rattle.core_state.specs.Tests.{two, is_at, is_owed, is_owe, is_exploring, carries, is_renew, is_suspect, is_made, is_close, is_close_from, is_notify, notifies, suspects_block, is_of, is_created, is_spent, is_closed, is_struck, is_replaced, is_computed, is_written, came_with}
 use Rattle.core_state.specs.Change.{Core, Change, Sums, many}
 use Rattle.core_state.specs.Rows.{HasKey, HasRow, Keys, Empty, LifeOf, Lives, Shows, Lists, Content}
@@ -14,7 +14,7 @@ use Rattle.core_state.specs.Work.{Credits}
 use Rattle.core_state.specs.Cover.{Needs, Covered, CoveredSelf, Cover, covers_self, covers_edge}
 use Rattle.core_state.specs.Invariant.{Invariant}
 use Rattle.core_state.specs.Guards.{CanClaim}
-use Rattle.core_state.specs.Views.{key_of, on_top}
+use Rattle.core_state.specs.Views.{key_of}
 use Rattle.core_state.specs.Effects.{after_claim, distance}
 use Rattle.core_state.specs.declared.answers.Claim.TheVariants as claim
 use Rattle.graph_model.specs.declared.record.Hit.TheVariants as hit_of
@@ -28,29 +28,10 @@ use Rattle.core_state.specs.declared.views.Stack.{Stack}
 use Rattle.core_state.specs.declared.views.View.{View}
 use Rattle.core_state.proofs.Base.Paths.{at_distance}
 use Rattle.core_state.proofs.Base.Counting.{eqb_here, two_here, two_tells, bump_is}
-use Rattle.core_state.proofs.Credit.Keeps.{posted_same}
-use Rattle.core_state.proofs.Base.Frame.{was}
+pub use Rattle.core_state.proofs.Base.Counting.{both}
+use Rattle.core_state.proofs.Base.Tops.{push_none, push_one, push_length}
+use Rattle.core_state.proofs.Base.Frame.{was, posted_same}
 use Rattle.core_state.proofs.Row.View.{other_there, no_row, no_record_such, no_item, fewer_items}
-
--- an item on top of the last stack
-pub push_none : (p : Item → Bool) (x : Item) (ss : List Stack) → p x ≡ false → in_stacks p (on_top (λ xs. x ∷ xs) ss) ≡ in_stacks p ss
-push_none p x [] e = refl
-push_none p x (s ∷ ss) e = ap (λ (b : Bool). bump b (count p s.items) + in_stacks p ss) e
-
-pub push_one : (p : Item → Bool) (x : Item) (ss rest : List Stack) (u : Stack) → ss ≡ u ∷ rest → p x ≡ true → in_stacks p (on_top (λ xs. x ∷ xs) ss) ≡ in_stacks p ss + 1
-push_one p x ss rest u is e = subst (λ ys. in_stacks p (on_top (λ xs. x ∷ xs) ys) ≡ in_stacks p ys + 1) (sym is) (ap (λ (b : Bool). bump b (count p u.items) + in_stacks p rest) e ∙ omega arith)
-
-pub push_length : (f : List Item → List Item) (ss : List Stack) → length (on_top f ss) ≡ length ss
-push_length f [] = refl
-push_length f (s ∷ ss) = refl
-
-pub push_came : (i : Job) (k l : ℕ) (f : List Item → List Item) (ss : List Stack) → count (came_with i k l) (on_top f ss) ≡ count (came_with i k l) ss
-push_came i k l f [] = refl
-push_came i k l f (s ∷ ss) = refl
-
-pub both : (a b : Bool) → (a && b) ≡ true → (a ≡ true) × (b ≡ true)
-both true b e = (refl, e)
-both false b e = absurd cc
 
 first_stack : (p : Item → Bool) (ss : List Stack) → 0 < in_stacks p ss → (u : Stack) × ((rest : List Stack) × (ss ≡ u ∷ rest))
 first_stack p [] z = absurd (omega (arith, z))

@@ -33,7 +33,8 @@ use Rattle.core_state.proofs.Base.Counting.{two_here, not_two}
 use Rattle.core_state.proofs.Start.Keeps.{no_hit}
 use Rattle.core_state.proofs.Base.Frame.{was}
 use Rattle.core_state.proofs.Base.MoreRecords.{block_struck_grows, all_closed_grows}
-use Rattle.core_state.proofs.Row.Made.{push_none, push_came, same, word, its, one_more, no_old, row_new, kept, rows, has_row, item_none, record_none, recs, more, spent_of, written_of, computed_of, replaced_of, owed_at, carries_at, made_at, close_at, close_from_at, notify_at, made_keys, made_empty, made_lives, made_content, made_credits, made_causes, made_cover}
+use Rattle.core_state.proofs.Base.Tops.{push_none, push_came}
+use Rattle.core_state.proofs.Row.Made.{same, word, its, one_more, no_old, row_new, kept, rows, has_row, item_none, record_none, recs, more, spent_of, written_of, computed_of, replaced_of, owed_at, carries_at, made_at, close_at, close_from_at, notify_at, made_keys, made_empty, made_lives, made_content, made_credits, made_causes, made_cover}
 
 other_owed : (i : Job) (m l k : ℕ) → ((m ≡ k) × (l ≡ 1) → ⊥) → is_owed i m l (item.Owe k job.Explore 1) ≡ false
 other_owed job.Explore m l k f = not_two m l k 1 f

@@ -1,5 +1,5 @@
 -- Claiming a row for a key.
-use Rattle.std.proofs.Common.{◌≡◌, ◌≢◌, ℕ, zero, suc, ◌+◌, ◌-◌, ◌%◌, ◌<◌, ◌≤◌, Bool, true, false, cond, eqb, ◌&&◌, List, [], ◌∷◌, ⊎_elim, arith, sym, ap, refl, ◌∙◌, subst}
+use Rattle.std.proofs.Common.{◌≡◌, ◌≢◌, ℕ, zero, suc, ◌+◌, ◌-◌, ◌%◌, ◌<◌, ◌≤◌, Bool, true, false, cond, eqb, List, [], ◌∷◌, ⊎_elim, arith, sym, ap, refl, ◌∙◌, subst}
 use mathlib.Core.Logic.{dite}
 use native.Mathlib.Decide.{ℕ_discrete, dec_lt}
 use Rattle.std.proofs.lemmas.Bool.Decides.{eqb_tells}
@@ -19,7 +19,7 @@ use Rattle.graph_model.specs.declared.record.Record.{Record}
 use Rattle.core_state.specs.declared.views.Stack.{Stack}
 use Rattle.core_state.specs.declared.views.View.{View}
 use Rattle.core_state.proofs.Base.Paths.{reaches, distance_below}
-use Rattle.core_state.proofs.Base.Counting.{bump_is}
+use Rattle.core_state.proofs.Base.Counting.{bump_is, both}
 
 -- what a view knows of a row's key word is one of its facts
 pub word_known : (r : ℕ) (xs : List Known) → 0 < word_in r xs → 0 < count (is_row r (word_in r xs - 1)) xs
@@ -37,10 +37,6 @@ word_known r (known.Life k w l ∷ xs) z = word_known r xs z
 word_known r (known.Mark k w l ∷ xs) z = word_known r xs z
 word_known r (known.Closed k w l ∷ xs) z = word_known r xs z
 word_known r (known.Waits k w l ∷ xs) z = word_known r xs z
-
-both : (a b : Bool) → (a && b) ≡ true → (a ≡ true) × (b ≡ true)
-both true b e = (refl, e)
-both false b e = absurd cc
 
 -- each row before the end of the path is known to hold another key
 pub before : (rows k : ℕ) (xs : List Known) (d i : ℕ) → others_before rows k xs d ≡ true → i < d → is_other k (word_in ((k + i) % rows) xs) ≡ true

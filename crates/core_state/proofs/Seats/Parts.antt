@@ -18,8 +18,7 @@ use Rattle.core_state.specs.declared.job.Job.{Job}
 use Rattle.core_state.specs.declared.job.Job.TheVariants.{Explore, Compute}
 use Rattle.core_state.specs.declared.views.Known.{Known}
 use Rattle.core_state.specs.declared.views.Word.{Word}
-use Rattle.core_state.proofs.Credit.Keeps.{posted_same}
-use Rattle.core_state.proofs.Base.Frame.{SameItems, SameRecords, SameEnded, SameBegun, had, keys_stay, frame_empty, frame_lives, same_shows, frame_jobs, frame_computings, frame_blocks, frame_records, frame_causes, frame_activity, frame_no_fault}
+use Rattle.core_state.proofs.Base.Frame.{SameItems, SameRecords, SameEnded, SameBegun, had, keys_stay, frame_empty, frame_lives, same_shows, frame_jobs, frame_computings, frame_blocks, frame_records, frame_causes, frame_activity, frame_no_fault, posted_same}
 use Rattle.core_state.proofs.Base.WeakFrame.{wide_root_work, wide_strikes, wide_facts, wide_cover}
 
 -- what such a move leaves: a fact may be known twice as often

@@ -19,11 +19,11 @@ use Rattle.core_state.specs.declared.views.Item.{Item}
 use Rattle.core_state.specs.declared.views.Item.TheVariants as item
 use Rattle.core_state.specs.declared.views.Word.{Word}
 use Rattle.core_state.specs.declared.views.View.{View}
-use Rattle.core_state.proofs.Credit.Keeps.{posted_same}
 use Rattle.core_state.proofs.Row.View.{fewer_items}
-use Rattle.core_state.proofs.Base.Frame.{SameRecords, keys_stay, frame_empty, frame_content, frame_facts, frame_blocks, frame_records}
+use Rattle.core_state.proofs.Base.Frame.{SameRecords, keys_stay, frame_empty, frame_content, frame_facts, frame_blocks, frame_records, posted_same}
 use Rattle.core_state.proofs.Credit.JobView.{and_false}
-use Rattle.core_state.proofs.Row.Made.{carries_at, push_came, push_length}
+use Rattle.core_state.proofs.Base.Tops.{push_came, push_length}
+use Rattle.core_state.proofs.Row.Made.{carries_at}
 use Rattle.core_state.proofs.Settle.View.{settled_same, settled_falls, settled_begun, settle_activity}
 use Rattle.core_state.proofs.Base.WeakFrame.{wide_lives, wide_jobs, wide_computings, wide_root, wide_causes, wide_strikes, wide_cover, wide_no_fault}
 

@@ -22,9 +22,9 @@ use Rattle.core_state.specs.declared.views.Item.{Item}
 use Rattle.core_state.specs.declared.views.Item.TheVariants as item
 use Rattle.core_state.specs.declared.views.Stack.{Stack}
 use Rattle.core_state.specs.declared.views.View.{View}
-use Rattle.core_state.proofs.Base.Counting.{bump_is}
+use Rattle.core_state.proofs.Base.Counting.{bump_is, both}
+use Rattle.core_state.proofs.Base.Tops.{push_came, push_length}
 use Rattle.core_state.proofs.Row.View.{fewer}
-use Rattle.core_state.proofs.Row.Made.{both, push_came, push_length}
 use Rattle.core_state.proofs.Base.ItemMoves.{Serves, moved_selfs, moved_edges, moved_ends, serves_stack}
 use Rattle.core_state.proofs.Spend.View.{SpendView}
 use Rattle.core_state.proofs.Spend.Parts.{spend_keeps}

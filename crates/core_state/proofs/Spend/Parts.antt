@@ -36,8 +36,7 @@ use Rattle.core_state.specs.declared.views.Word.{Word}
 use Rattle.core_state.specs.declared.views.Word.TheVariants as word
 use Rattle.core_state.specs.declared.views.View.{View}
 use Rattle.core_state.proofs.Base.Bits.{bit_set_here, bit_set_else, life_set, set_low}
-use Rattle.core_state.proofs.Credit.Keeps.{posted_same}
-use Rattle.core_state.proofs.Base.Frame.{SameKeys, keys_stay, had}
+use Rattle.core_state.proofs.Base.Frame.{SameKeys, keys_stay, had, posted_same}
 use Rattle.core_state.proofs.Base.MoreRecords.{all_closed_grows}
 use Rattle.core_state.proofs.Base.Counting.{three_here, three_apart, three_else, two_tells, two_here}
 use Rattle.core_state.proofs.Replace.Lives.{replaced_below}

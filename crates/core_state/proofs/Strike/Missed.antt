@@ -21,9 +21,8 @@ use Rattle.graph_model.specs.declared.record.Record.{Record}
 use Rattle.graph_model.specs.declared.record.Record.TheVariants as record_of
 use Rattle.core_state.specs.declared.block.BlockCells.{BlockCells}
 use Rattle.core_state.specs.declared.views.View.{View}
-use Rattle.core_state.proofs.Base.Counting.{two_tells}
+use Rattle.core_state.proofs.Base.Counting.{two_tells, both}
 use Rattle.core_state.proofs.Blocks.Versions.{many_some, writes_version, written_twice}
-use Rattle.core_state.proofs.Row.Made.{both}
 use Rattle.core_state.proofs.Strike.Next.{NextStrike, strike_row, strike_life}
 use Rattle.core_state.proofs.Blocks.AtWork.{at_work}
 

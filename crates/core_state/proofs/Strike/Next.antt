@@ -22,8 +22,8 @@ use Rattle.core_state.specs.declared.views.Item.{Item}
 use Rattle.core_state.specs.declared.views.Item.TheVariants as item
 use Rattle.core_state.specs.declared.views.Stack.{Stack}
 use Rattle.core_state.specs.declared.views.View.{View}
-use Rattle.core_state.proofs.Base.Counting.{two_here, two_tells}
-use Rattle.core_state.proofs.Row.Made.{both, carries_at}
+use Rattle.core_state.proofs.Base.Counting.{two_here, two_tells, both}
+use Rattle.core_state.proofs.Row.Made.{carries_at}
 use Rattle.core_state.proofs.Replace.Suspects.{descriptor_low, descriptor_high, notify_high}
 use Rattle.core_state.proofs.Blocks.AtWork.{at_work}
 

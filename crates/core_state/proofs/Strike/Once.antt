@@ -22,10 +22,9 @@ use Rattle.graph_model.specs.declared.record.Hit.TheVariants as hit_of
 use Rattle.core_state.specs.declared.job.Job.{Job}
 use Rattle.core_state.specs.declared.views.View.{View}
 use Rattle.core_state.specs.declared.views.Word.TheVariants as word
-use Rattle.core_state.proofs.Base.Counting.{bump_is, eqb_here, not_here}
+use Rattle.core_state.proofs.Base.Counting.{bump_is, eqb_here, not_here, both}
 use Rattle.core_state.proofs.Base.Frame.{SameKeys, had}
 use Rattle.core_state.proofs.Base.MoreRecords.{block_struck_grows}
-use Rattle.core_state.proofs.Row.Made.{both}
 use Rattle.core_state.proofs.Strike.View.{StrikeView, StrikeStep, more, one_more, same_begun}
 use Rattle.core_state.proofs.Strike.Next.{NextStrike, next_strike_is, holds_job, not_made}
 use Rattle.core_state.proofs.Base.WeakFrame.{SameLives, KeptMarks, MoreRecords, marked_landed}

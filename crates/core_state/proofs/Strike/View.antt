@@ -22,9 +22,8 @@ use Rattle.core_state.specs.declared.views.Known.TheVariants as known
 use Rattle.core_state.specs.declared.views.Word.{Word}
 use Rattle.core_state.specs.declared.views.Word.TheVariants.{Descriptor}
 use Rattle.core_state.specs.declared.views.View.{View}
-use Rattle.core_state.proofs.Credit.Keeps.{posted_same}
 use Rattle.core_state.proofs.Base.Counting.{two_tells}
-use Rattle.core_state.proofs.Base.Frame.{SameKeys, SameRecovery, SamePosted, keys_stay}
+use Rattle.core_state.proofs.Base.Frame.{SameKeys, SameRecovery, SamePosted, keys_stay, posted_same}
 use Rattle.core_state.proofs.Base.RecordFrame.{MayName, wide_records}
 use Rattle.core_state.proofs.Spend.View.{and_fails}
 use Rattle.core_state.proofs.Replace.Lives.{replaced_below}

@@ -23,11 +23,10 @@ use Rattle.core_state.specs.declared.views.Known.{Known}
 use Rattle.core_state.specs.declared.views.View.{View}
 use Rattle.core_state.specs.declared.views.Word.{Word}
 use Rattle.core_state.specs.declared.views.Word.TheVariants as word
-use Rattle.core_state.proofs.Base.Counting.{bump_is, eqb_here, two_here}
+use Rattle.core_state.proofs.Base.Counting.{bump_is, eqb_here, two_here, both}
 use Rattle.core_state.proofs.Row.View.{count_below}
 use Rattle.core_state.proofs.Base.Frame.{had, has_row}
 use Rattle.core_state.proofs.Load.Recovery.{life_any, mark_any, same_spot, no_turn}
-use Rattle.core_state.proofs.Row.Made.{both}
 use Rattle.core_state.proofs.Spend.View.{seen_other}
 use Rattle.core_state.proofs.Strike.View.{StrikeView, StrikeStep, eq, its, same_items, same_ended, more, rec, one_more, fact, made_keys, made_lives, made_credits, made_jobs, made_computings, made_causes, made_cover, made_activity, made_records, made_no_fault}
 use Rattle.core_state.proofs.Replace.Suspects.{none_struck}
