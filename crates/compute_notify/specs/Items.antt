@@ -38,10 +38,14 @@ use Rattle.compute_notify.specs.Running.{life_limit}
 use Rattle.compute_notify.specs.Striking.{FitsStrikes, strike_left}
 use Rattle.compute_notify.specs.declared.close.Close.{Close}
 use Rattle.compute_notify.specs.declared.compute.Compute.{Compute}
+use Rattle.compute_notify.specs.declared.compute.Computed.{Computed}
+use Rattle.compute_notify.specs.declared.compute.Computed.TheVariants as computed
 use Rattle.compute_notify.specs.declared.compute.Phase.{Phase}
 use Rattle.compute_notify.specs.declared.compute.Phase.TheVariants as phase
 use Rattle.compute_notify.specs.declared.duty.Duty.{Duty}
 use Rattle.compute_notify.specs.declared.explore.Explore.{Explore}
+use Rattle.compute_notify.specs.declared.explore.Explored.{Explored}
+use Rattle.compute_notify.specs.declared.explore.Explored.TheVariants as explored
 use Rattle.compute_notify.specs.declared.explore.Way.{Way as Reaching}
 use Rattle.compute_notify.specs.declared.explore.Way.TheVariants as reaching
 use Rattle.compute_notify.specs.declared.item.After.{After}
@@ -237,6 +241,24 @@ pub record Stands (g : TaskGraph) (e : Setting) (v : View) (x : Item) : Type 0 w
   pub top : IsOnTop e v (item_lines e.graph x)
   pub credits : v.spare ≡ item_credits x
   pub sure : IsSure e v
+
+-- what a turn of an exploring left and brought
+abbrev pub explored_after : Explore → ℕ → Explored → After
+explored_after x lives (explored.On way) = record { left = Some (item.Explore (record x { way = way })); came = came.Nothing }
+explored_after x lives (explored.At place) = record { left = Some (item.Explore (record x { place = place; way = reaching.Start })); came = came.Nothing }
+explored_after x lives (explored.Struck made) = record { left = Some (item.Explore (record x { made = made })); came = came.Nothing }
+explored_after x lives (explored.Made row key) = record { left = Some (item.Explore (record x { way = reaching.Register row })); came = came.Above (item.Owe (record { row = row; key = key; job = job.Explore; life = 1; bought = false })) }
+explored_after x lives (explored.Marked writer) = record { left = Some (item.Explore (record x { way = reaching.Register writer.row })); came = came.Above (item.Recover (replaces writer cause.Notify false lives)) }
+explored_after x lives (explored.Spent place told) = record { left = Some (item.Explore (record x { place = place; way = reaching.Start })); came = told_came told x.duty.row x.duty.key lives }
+explored_after x lives (explored.Ended told) = record { left = None; came = told_came told x.duty.row x.duty.key lives }
+
+-- what a turn of a computing left and brought
+abbrev pub computed_after : Compute → ℕ → Computed → After
+computed_after c lives (computed.On p) = record { left = Some (item.Compute (record c { phase = p })); came = came.Nothing }
+computed_after c lives (computed.Bad input why) = record { left = Some (item.Look (record { duty = c.duty; cause = why; input = input; way = looking.Start })); came = came.Nothing }
+computed_after c lives computed.Written = record { left = Some (item.Close (close_from c.duty 0)); came = came.Nothing }
+computed_after c lives computed.Left = record { left = None; came = came.Nothing }
+computed_after c lives (computed.Marked life) = record { left = None; came = came.Above (item.Recover (replaces (record { row = c.duty.row; key = c.duty.key; life = life }) cause.Descriptor false lives)) }
 
 -- What a turn leaves.
 abbrev pub left_lines : Graph → Option Item → List Line → List Line

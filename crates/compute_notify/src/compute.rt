@@ -1,6 +1,6 @@
 ghost use Rattle.std.specs.Prelude.{None, Some, [], length, take, ℕ, ◌+◌, ◌<◌, ◌≡◌, ◌≤◌, false};
 ghost use Rattle.compute_notify.specs.Eventing.{calls_after, compute_event, prepared, writing_event};
-ghost use Rattle.compute_notify.specs.Items.{Goes, Stands, item_lines, is_spent};
+ghost use Rattle.compute_notify.specs.Items.{Goes, Stands, computed_after, item_lines, is_spent};
 ghost use Rattle.compute_notify.specs.Resting.{FallsGood, LetsFall, after_rest, item_rest};
 ghost use Rattle.compute_notify.specs.Rooms.{AfterScratch, FitsScratch, HasRoom, IsReady};
 ghost use Rattle.compute_notify.specs.Running.{Makes, Runs, SameKernel};
@@ -35,13 +35,28 @@ pub(crate) struct Compute {
 
 /// What comes next.
 #[derive(Clone, Copy, Debug)]
-enum Phase {
+pub(crate) enum Phase {
     /// The strikes of the point, so many of which are made or passed over, and the look at the descriptor.
     Ready { made: u32 },
     /// The input of this number, or the kernel where all are read.
     Reading { input: u32 },
     /// The output stands in the scratch.
     Writing,
+}
+
+/// What a turn of a computing came to. It is small, since most turns only go on.
+#[derive(Clone, Copy, Debug)]
+pub(crate) enum Computed {
+    /// The computing goes on.
+    On { phase: Phase },
+    /// The block of this input is bad, whose writer is to be looked at.
+    Bad { input: u32, cause: Cause },
+    /// The value is written, and the notify words are closed next.
+    Written,
+    /// A later life does the rest.
+    Left,
+    /// The descriptor shows a mark on this life.
+    Marked { life: u32 },
 }
 
 impl Compute {
@@ -54,12 +69,35 @@ impl Compute {
         }
     }
 
-    fn on(self, phase: Phase) -> After
-        ensures { result ≡ record { left = Some (Item.Compute (record self { phase = phase })); came = Came.Nothing } }
+    // The computing that goes on.
+    #[inline(always)]
+    pub(crate) fn on(self, phase: Phase) -> Compute
+        ensures { result ≡ record self { phase = phase } }
     {
-        After::stays(Item::Compute {
-            compute: Compute { phase, ..self },
-        })
+        Compute { phase, ..self }
+    }
+
+    /// What a turn left and brought.
+    pub(crate) fn after(&self, told: Computed, lives: u32) -> After
+        ensures { result ≡ computed_after self.now lives told }
+    {
+        let Duty { row, key, life: _ } = self.duty;
+        match told {
+            Computed::On { phase } => After::stays(Item::Compute {
+                compute: self.on(phase),
+            }),
+            Computed::Bad { input, cause } => After::stays(Item::Look {
+                look: Look::of(self.duty, cause, input),
+            }),
+            Computed::Written => After::stays(Item::Close {
+                close: Close::of(self.duty),
+            }),
+            Computed::Left => After::leaves(),
+            Computed::Marked { life } => {
+                let shown = Duty { row, key, life };
+                After::gone(Came::recover(shown, Cause::Descriptor, false, lives))
+            }
+        }
     }
 
     /// One step: a strike's or a load at the beginning, half of a reading for each input, and half of the writing.
@@ -72,7 +110,7 @@ impl Compute {
         hand: &mut Option<BlockCells>,
         scratch: &mut Scratch,
         kernel: &mut Ke,
-    ) -> After
+    ) -> Computed
         requires runs { Runs (G.graph terms.now.graph.now) terms.now.plan.now terms.now.lives (T.setting steps.old) }
         requires stands { Stands (G.graph terms.now.graph.now) (T.setting steps.old) (T.view steps.old) (Item.Compute self) }
         requires outcome { Makes (G.graph terms.now.graph.now) (Ke.outcome kernel.old) (Ke.fits kernel.old) (T.setting steps.old) }
@@ -80,16 +118,16 @@ impl Compute {
         requires scratch { FitsScratch (T.setting steps.old) (G.graph terms.now.graph.now) scratch.old (Item.Compute self) }
         requires calls { 1 ≤ Ke.spare kernel.old }
         requires room { 2 ≤ T.KeyWords.spare steps.old }
-        ensures goes { Goes (G.graph terms.now.graph.now) (T.setting steps.old) (T.view steps.old) (T.view steps.new) (item_lines (T.setting steps.old).graph (Item.Compute self)) result }
-        ensures spent { is_spent result.came ≡ false }
-        ensures top { AfterHand (T.setting steps.old) (T.view steps.new) hand.new result }
-        ensures scratch { AfterScratch (T.setting steps.old) (G.graph terms.now.graph.now) scratch.new result }
+        ensures goes { Goes (G.graph terms.now.graph.now) (T.setting steps.old) (T.view steps.old) (T.view steps.new) (item_lines (T.setting steps.old).graph (Item.Compute self)) (computed_after self terms.now.lives result) }
+        ensures spent { is_spent (computed_after self terms.now.lives result).came ≡ false }
+        ensures top { AfterHand (T.setting steps.old) (T.view steps.new) hand.new (computed_after self terms.now.lives result) }
+        ensures scratch { AfterScratch (T.setting steps.old) (G.graph terms.now.graph.now) scratch.new (computed_after self terms.now.lives result) }
         ensures calls { Ke.calls kernel.new ≡ calls_after (T.setting steps.old).graph self (Ke.calls kernel.old) }
         ensures kernel { SameKernel (Ke.outcome kernel.old) (Ke.outcome kernel.new) (Ke.fits kernel.old) (Ke.fits kernel.new) }
         ensures kernel_room { Ke.spare kernel.old ≤ Ke.spare kernel.new + 1 }
         ensures step { HasStepped T.setting T.view T.KeyWords.made T.KeyWords.spare T.KeyWords.last T.shown T.happened T.lender T.others (prepared (T.setting steps.old).graph self) (compute_event (T.setting steps.old) (T.view steps.old) terms.now.plan.now hand.old hand.new self) steps.old steps.new }
-        ensures rest { LetsFall (T.setting steps.old) terms.now.plan.now (compute_event (T.setting steps.old) (T.view steps.old) terms.now.plan.now hand.old hand.new self) (T.shown steps.new).1 (item_rest (T.setting steps.old) terms.now.plan.now hand.old (Item.Compute self)) (after_rest (T.setting steps.old) terms.now.plan.now hand.new result) }
-        ensures good { FallsGood (T.setting steps.old) hand.old (Item.Compute self) (item_rest (T.setting steps.old) terms.now.plan.now hand.old (Item.Compute self)) (after_rest (T.setting steps.old) terms.now.plan.now hand.new result) }
+        ensures rest { LetsFall (T.setting steps.old) terms.now.plan.now (compute_event (T.setting steps.old) (T.view steps.old) terms.now.plan.now hand.old hand.new self) (T.shown steps.new).1 (item_rest (T.setting steps.old) terms.now.plan.now hand.old (Item.Compute self)) (after_rest (T.setting steps.old) terms.now.plan.now hand.new (computed_after self terms.now.lives result)) }
+        ensures good { FallsGood (T.setting steps.old) hand.old (Item.Compute self) (item_rest (T.setting steps.old) terms.now.plan.now hand.old (Item.Compute self)) (after_rest (T.setting steps.old) terms.now.plan.now hand.new (computed_after self terms.now.lives result)) }
     {
         match self.phase {
             Phase::Ready { made } => self.ready(steps, terms, hand, scratch, made),
@@ -112,19 +150,19 @@ impl Compute {
         hand: &mut Option<BlockCells>,
         scratch: &mut Scratch,
         made: u32,
-    ) -> After
+    ) -> Computed
         requires runs { Runs (G.graph terms.now.graph.now) terms.now.plan.now terms.now.lives (T.setting steps.old) }
         requires stands { Stands (G.graph terms.now.graph.now) (T.setting steps.old) (T.view steps.old) (Item.Compute self) }
         requires phase { self.phase ≡ Phase.Ready made }
         requires top { FitsTop (T.setting steps.old) (T.view steps.old) hand.old (Item.Compute self) }
         requires scratch { HasRoom (G.graph terms.now.graph.now) scratch.old }
         requires room { 1 ≤ T.KeyWords.spare steps.old }
-        ensures goes { Goes (G.graph terms.now.graph.now) (T.setting steps.old) (T.view steps.old) (T.view steps.new) (item_lines (T.setting steps.old).graph (Item.Compute self)) result }
-        ensures spent { is_spent result.came ≡ false }
-        ensures top { AfterHand (T.setting steps.old) (T.view steps.new) hand.new result }
-        ensures scratch { AfterScratch (T.setting steps.old) (G.graph terms.now.graph.now) scratch.new result }
+        ensures goes { Goes (G.graph terms.now.graph.now) (T.setting steps.old) (T.view steps.old) (T.view steps.new) (item_lines (T.setting steps.old).graph (Item.Compute self)) (computed_after self terms.now.lives result) }
+        ensures spent { is_spent (computed_after self terms.now.lives result).came ≡ false }
+        ensures top { AfterHand (T.setting steps.old) (T.view steps.new) hand.new (computed_after self terms.now.lives result) }
+        ensures scratch { AfterScratch (T.setting steps.old) (G.graph terms.now.graph.now) scratch.new (computed_after self terms.now.lives result) }
         ensures step { HasStepped T.setting T.view T.KeyWords.made T.KeyWords.spare T.KeyWords.last T.shown T.happened T.lender T.others (λ v. v) (compute_event (T.setting steps.old) (T.view steps.old) terms.now.plan.now hand.old hand.new self) steps.old steps.new }
-        ensures rest { LetsFall (T.setting steps.old) terms.now.plan.now (compute_event (T.setting steps.old) (T.view steps.old) terms.now.plan.now hand.old hand.new self) (T.shown steps.new).1 (item_rest (T.setting steps.old) terms.now.plan.now hand.old (Item.Compute self)) (after_rest (T.setting steps.old) terms.now.plan.now hand.new result) }
+        ensures rest { LetsFall (T.setting steps.old) terms.now.plan.now (compute_event (T.setting steps.old) (T.view steps.old) terms.now.plan.now hand.old hand.new self) (T.shown steps.new).1 (item_rest (T.setting steps.old) terms.now.plan.now hand.old (Item.Compute self)) (after_rest (T.setting steps.old) terms.now.plan.now hand.new (computed_after self terms.now.lives result)) }
     {
         let words = Rooted::of(terms.graph).notify_words(self.duty.key);
         match next_strike(terms.plan, words, Point::Ready, self.duty, made) {
@@ -139,24 +177,26 @@ impl Compute {
         terms: &Terms<'_, G>,
         next: Next,
         hand: &mut Option<BlockCells>,
-    ) -> After
+    ) -> Computed
         requires runs { Runs (G.graph terms.now.graph.now) terms.now.plan.now terms.now.lives (T.setting steps.old) }
         requires stands { Stands (G.graph terms.now.graph.now) (T.setting steps.old) (T.view steps.old) (Item.Compute self) }
         requires top { FitsTop (T.setting steps.old) (T.view steps.old) hand.old (Item.Compute self) }
         requires next { strike_left (T.setting steps.old).graph terms.now.plan.now (Item.Compute self) ≡ Some next }
         requires room { 1 ≤ T.KeyWords.spare steps.old }
-        ensures goes { Goes (G.graph terms.now.graph.now) (T.setting steps.old) (T.view steps.old) (T.view steps.new) (item_lines (T.setting steps.old).graph (Item.Compute self)) result }
-        ensures spent { is_spent result.came ≡ false }
-        ensures ready { IsReady result }
-        ensures top { AfterHand (T.setting steps.old) (T.view steps.new) hand.new result }
+        ensures goes { Goes (G.graph terms.now.graph.now) (T.setting steps.old) (T.view steps.old) (T.view steps.new) (item_lines (T.setting steps.old).graph (Item.Compute self)) (computed_after self terms.now.lives result) }
+        ensures spent { is_spent (computed_after self terms.now.lives result).came ≡ false }
+        ensures ready { IsReady (computed_after self terms.now.lives result) }
+        ensures top { AfterHand (T.setting steps.old) (T.view steps.new) hand.new (computed_after self terms.now.lives result) }
         ensures step { HasStepped T.setting T.view T.KeyWords.made T.KeyWords.spare T.KeyWords.last T.shown T.happened T.lender T.others (λ v. v) (strike_event (T.setting steps.old) (T.view steps.old) self.duty next.target hand.old hand.new) steps.old steps.new }
-        ensures rest { LetsFall (T.setting steps.old) terms.now.plan.now (strike_event (T.setting steps.old) (T.view steps.old) self.duty next.target hand.old hand.new) (T.shown steps.new).1 (item_rest (T.setting steps.old) terms.now.plan.now hand.old (Item.Compute self)) (after_rest (T.setting steps.old) terms.now.plan.now hand.new result) }
+        ensures rest { LetsFall (T.setting steps.old) terms.now.plan.now (strike_event (T.setting steps.old) (T.view steps.old) self.duty next.target hand.old hand.new) (T.shown steps.new).1 (item_rest (T.setting steps.old) terms.now.plan.now hand.old (Item.Compute self)) (after_rest (T.setting steps.old) terms.now.plan.now hand.new (computed_after self terms.now.lives result)) }
     {
         let graph = Rooted::of(terms.graph);
         if make_strike(steps, &graph, self.duty, next.target, hand) {
-            self.on(Phase::Ready { made: next.made })
+            Computed::On {
+                phase: Phase::Ready { made: next.made },
+            }
         } else {
-            After::stays(Item::Compute { compute: self })
+            Computed::On { phase: self.phase }
         }
     }
 
@@ -166,7 +206,7 @@ impl Compute {
         steps: &mut T,
         terms: &Terms<'_, G>,
         scratch: &mut Scratch,
-    ) -> After
+    ) -> Computed
         requires runs { Runs (G.graph terms.now.graph.now) terms.now.plan.now terms.now.lives (T.setting steps.old) }
         requires stands { Stands (G.graph terms.now.graph.now) (T.setting steps.old) (T.view steps.old) (Item.Compute self) }
         requires phase { (made : ℕ) × (self.phase ≡ Phase.Ready made) }
@@ -174,27 +214,24 @@ impl Compute {
         requires hand { (T.view steps.old).hands ≡ [] }
         requires scratch { HasRoom (G.graph terms.now.graph.now) scratch.old }
         requires room { 1 ≤ T.KeyWords.spare steps.old }
-        ensures goes { Goes (G.graph terms.now.graph.now) (T.setting steps.old) (T.view steps.old) (T.view steps.new) (item_lines (T.setting steps.old).graph (Item.Compute self)) result }
-        ensures spent { is_spent result.came ≡ false }
+        ensures goes { Goes (G.graph terms.now.graph.now) (T.setting steps.old) (T.view steps.old) (T.view steps.new) (item_lines (T.setting steps.old).graph (Item.Compute self)) (computed_after self terms.now.lives result) }
+        ensures spent { is_spent (computed_after self terms.now.lives result).came ≡ false }
         ensures hand { (T.view steps.new).hands ≡ [] }
-        ensures scratch { AfterScratch (T.setting steps.old) (G.graph terms.now.graph.now) scratch.new result }
+        ensures scratch { AfterScratch (T.setting steps.old) (G.graph terms.now.graph.now) scratch.new (computed_after self terms.now.lives result) }
         ensures step { HasStepped T.setting T.view T.KeyWords.made T.KeyWords.spare T.KeyWords.last T.shown T.happened T.lender T.others (λ v. v) (event.load_descriptor self.duty.row (known_key self.duty.row (T.view steps.old))) steps.old steps.new }
-        ensures rest { LetsFall (T.setting steps.old) terms.now.plan.now (event.load_descriptor self.duty.row (known_key self.duty.row (T.view steps.old))) (T.shown steps.new).1 (item_rest (T.setting steps.old) terms.now.plan.now None (Item.Compute self)) (after_rest (T.setting steps.old) terms.now.plan.now None result) }
+        ensures rest { LetsFall (T.setting steps.old) terms.now.plan.now (event.load_descriptor self.duty.row (known_key self.duty.row (T.view steps.old))) (T.shown steps.new).1 (item_rest (T.setting steps.old) terms.now.plan.now None (Item.Compute self)) (after_rest (T.setting steps.old) terms.now.plan.now None (computed_after self terms.now.lives result)) }
     {
-        let Duty { row, key, life } = self.duty;
+        let Duty { row, key: _, life } = self.duty;
         let word = steps.load_descriptor(row);
         if word.struck {
-            let shown = Duty {
-                row,
-                key,
-                life: word.life,
-            };
-            After::gone(Came::recover(shown, Cause::Descriptor, false, terms.lives))
+            Computed::Marked { life: word.life }
         } else if word.life != life {
-            After::leaves()
+            Computed::Left
         } else {
             scratch.inputs.clear();
-            self.on(Phase::Reading { input: 0 })
+            Computed::On {
+                phase: Phase::Reading { input: 0 },
+            }
         }
     }
 
@@ -205,7 +242,7 @@ impl Compute {
         hand: &mut Option<BlockCells>,
         scratch: &mut Scratch,
         input: u32,
-    ) -> After
+    ) -> Computed
         requires runs { Runs (G.graph terms.now.graph.now) terms.now.plan.now terms.now.lives (T.setting steps.old) }
         requires stands { Stands (G.graph terms.now.graph.now) (T.setting steps.old) (T.view steps.old) (Item.Compute self) }
         requires phase { self.phase ≡ Phase.Reading input }
@@ -213,25 +250,29 @@ impl Compute {
         requires top { FitsTop (T.setting steps.old) (T.view steps.old) hand.old (Item.Compute self) }
         requires scratch { FitsScratch (T.setting steps.old) (G.graph terms.now.graph.now) scratch.old (Item.Compute self) }
         requires room { 1 ≤ T.KeyWords.spare steps.old }
-        ensures goes { Goes (G.graph terms.now.graph.now) (T.setting steps.old) (T.view steps.old) (T.view steps.new) (item_lines (T.setting steps.old).graph (Item.Compute self)) result }
-        ensures spent { is_spent result.came ≡ false }
-        ensures top { AfterHand (T.setting steps.old) (T.view steps.new) hand.new result }
-        ensures scratch { AfterScratch (T.setting steps.old) (G.graph terms.now.graph.now) scratch.new result }
+        ensures goes { Goes (G.graph terms.now.graph.now) (T.setting steps.old) (T.view steps.old) (T.view steps.new) (item_lines (T.setting steps.old).graph (Item.Compute self)) (computed_after self terms.now.lives result) }
+        ensures spent { is_spent (computed_after self terms.now.lives result).came ≡ false }
+        ensures top { AfterHand (T.setting steps.old) (T.view steps.new) hand.new (computed_after self terms.now.lives result) }
+        ensures scratch { AfterScratch (T.setting steps.old) (G.graph terms.now.graph.now) scratch.new (computed_after self terms.now.lives result) }
         ensures step { HasStepped T.setting T.view T.KeyWords.made T.KeyWords.spare T.KeyWords.last T.shown T.happened T.lender T.others (λ v. v) (compute_event (T.setting steps.old) (T.view steps.old) terms.now.plan.now hand.old hand.new self) steps.old steps.new }
-        ensures rest { LetsFall (T.setting steps.old) terms.now.plan.now (compute_event (T.setting steps.old) (T.view steps.old) terms.now.plan.now hand.old hand.new self) (T.shown steps.new).1 (item_rest (T.setting steps.old) terms.now.plan.now hand.old (Item.Compute self)) (after_rest (T.setting steps.old) terms.now.plan.now hand.new result) }
-        ensures good { FallsGood (T.setting steps.old) hand.old (Item.Compute self) (item_rest (T.setting steps.old) terms.now.plan.now hand.old (Item.Compute self)) (after_rest (T.setting steps.old) terms.now.plan.now hand.new result) }
+        ensures rest { LetsFall (T.setting steps.old) terms.now.plan.now (compute_event (T.setting steps.old) (T.view steps.old) terms.now.plan.now hand.old hand.new self) (T.shown steps.new).1 (item_rest (T.setting steps.old) terms.now.plan.now hand.old (Item.Compute self)) (after_rest (T.setting steps.old) terms.now.plan.now hand.new (computed_after self terms.now.lives result)) }
+        ensures good { FallsGood (T.setting steps.old) hand.old (Item.Compute self) (item_rest (T.setting steps.old) terms.now.plan.now hand.old (Item.Compute self)) (after_rest (T.setting steps.old) terms.now.plan.now hand.new (computed_after self terms.now.lives result)) }
     {
         let graph = Rooted::of(terms.graph);
         let place = graph.block(graph.pred(self.duty.key, input).key);
         let len = graph.cells(place.block);
         let Some(taken) = hand.take() else {
             *hand = steps.take_turn(place.block);
-            return self.on(Phase::Reading { input });
+            return Computed::On {
+                phase: Phase::Reading { input },
+            };
         };
         match end_input(steps, place, taken, scratch, len) {
             Read::Good => {
                 scratch.keep(len);
-                self.on(Phase::Reading { input: input + 1 })
+                Computed::On {
+                    phase: Phase::Reading { input: input + 1 },
+                }
             }
             Read::Bad { found } => {
                 let cause = Cause::Block {
@@ -239,9 +280,7 @@ impl Compute {
                     version: place.version,
                     found,
                 };
-                After::stays(Item::Look {
-                    look: Look::of(self.duty, cause, input),
-                })
+                Computed::Bad { input, cause }
             }
             Read::Busy => unreachable!(),
         }
@@ -291,32 +330,32 @@ impl Compute {
         terms: &Terms<'_, G>,
         hand: &mut Option<BlockCells>,
         scratch: &Scratch,
-    ) -> After
+    ) -> Computed
         requires runs { Runs (G.graph terms.now.graph.now) terms.now.plan.now terms.now.lives (T.setting steps.old) }
         requires stands { Stands (G.graph terms.now.graph.now) (T.setting steps.old) (T.view steps.old) (Item.Compute (record self { phase = Phase.Writing })) }
         requires top { FitsTop (T.setting steps.old) (T.view steps.old) hand.old (Item.Compute (record self { phase = Phase.Writing })) }
         requires scratch { FitsScratch (T.setting steps.old) (G.graph terms.now.graph.now) scratch.now (Item.Compute (record self { phase = Phase.Writing })) }
         requires room { 1 ≤ T.KeyWords.spare steps.old }
-        ensures goes { Goes (G.graph terms.now.graph.now) (T.setting steps.old) (T.view steps.old) (T.view steps.new) (item_lines (T.setting steps.old).graph (Item.Compute (record self { phase = Phase.Writing }))) result }
-        ensures spent { is_spent result.came ≡ false }
-        ensures top { AfterHand (T.setting steps.old) (T.view steps.new) hand.new result }
-        ensures scratch { AfterScratch (T.setting steps.old) (G.graph terms.now.graph.now) scratch.now result }
+        ensures goes { Goes (G.graph terms.now.graph.now) (T.setting steps.old) (T.view steps.old) (T.view steps.new) (item_lines (T.setting steps.old).graph (Item.Compute (record self { phase = Phase.Writing }))) (computed_after self terms.now.lives result) }
+        ensures spent { is_spent (computed_after self terms.now.lives result).came ≡ false }
+        ensures top { AfterHand (T.setting steps.old) (T.view steps.new) hand.new (computed_after self terms.now.lives result) }
+        ensures scratch { AfterScratch (T.setting steps.old) (G.graph terms.now.graph.now) scratch.now (computed_after self terms.now.lives result) }
         ensures step { HasStepped T.setting T.view T.KeyWords.made T.KeyWords.spare T.KeyWords.last T.shown T.happened T.lender T.others (λ v. v) (writing_event (T.setting steps.old) hand.old hand.new self.duty) steps.old steps.new }
         ensures room { T.KeyWords.spare steps.old ≤ T.KeyWords.spare steps.new + 1 }
-        ensures rest { LetsFall (T.setting steps.old) terms.now.plan.now (writing_event (T.setting steps.old) hand.old hand.new self.duty) (T.shown steps.new).1 (item_rest (T.setting steps.old) terms.now.plan.now hand.old (Item.Compute (record self { phase = Phase.Writing }))) (after_rest (T.setting steps.old) terms.now.plan.now hand.new result) }
+        ensures rest { LetsFall (T.setting steps.old) terms.now.plan.now (writing_event (T.setting steps.old) hand.old hand.new self.duty) (T.shown steps.new).1 (item_rest (T.setting steps.old) terms.now.plan.now hand.old (Item.Compute (record self { phase = Phase.Writing }))) (after_rest (T.setting steps.old) terms.now.plan.now hand.new (computed_after self terms.now.lives result)) }
     {
         let Duty { row: _, key, life } = self.duty;
         let graph = Rooted::of(terms.graph);
         let place = graph.block(key);
         let Some(taken) = hand.take() else {
             *hand = steps.take_turn(place.block);
-            return self.on(Phase::Writing);
+            return Computed::On {
+                phase: Phase::Writing,
+            };
         };
         let from = &scratch.cells[..graph.cells(place.block)];
         end_write(steps, key, life, place.block, place.version, taken, from);
-        After::stays(Item::Close {
-            close: Close::of(self.duty),
-        })
+        Computed::Written
     }
 }
 

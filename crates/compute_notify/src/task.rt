@@ -116,19 +116,24 @@ fn next<G: TaskGraph>(items: &mut Vec<Item>, terms: &Terms<'_, G>) -> Option<Ite
     ensures capacity { vec_capacity items.new ≡ vec_capacity items.old }
 {
     loop {
-        let item = items.pop()?;
-        if !is_over(&item, terms) {
-            return Some(item);
+        let popped = items.pop();
+        match &popped {
+            Some(item) => {
+                if !is_over(item, terms) {
+                    return popped;
+                }
+            }
+            None => return popped,
         }
     }
 }
 
 // What the turn of an item comes to for its task, of which this many items are left then.
 #[inline(always)]
-fn told_of(came: Came, left: usize) -> Turn
-    ensures { result ≡ task_turn came left }
+fn told_of(came: &Came, left: usize) -> Turn
+    ensures { result ≡ task_turn came.now left }
 {
-    match came {
+    match *came {
         Came::Spent { key, life, cause } => Turn::LivesSpent { key, life, cause },
         Came::Nothing | Came::Above { item: _ } | Came::Stack { item: _ } => {
             if left == 0 { Turn::Done } else { Turn::Going }
@@ -136,9 +141,53 @@ fn told_of(came: Came, left: usize) -> Turn
     }
 }
 
+// Puts what is left of an item, and what came above it. Each is copied once, from where the turn left it.
+#[inline(always)]
+fn put_after(items: &mut Vec<Item>, after: &After)
+    requires { length items.old.items + 3 ≤ vec_capacity items.old }
+    ensures { items.new.items ≡ items.old.items ++ after_items after.now }
+{
+    match &after.left {
+        None => match &after.came {
+            Came::Nothing
+            | Came::Spent {
+                key: _,
+                life: _,
+                cause: _,
+            } => {}
+            Came::Above { item } => items.push_reserved(*item),
+            Came::Stack { item } => put_three(items, Some(Item::Credit), Some(*item), None),
+        },
+        Some(left) => match &after.came {
+            Came::Nothing
+            | Came::Spent {
+                key: _,
+                life: _,
+                cause: _,
+            } => items.push_reserved(*left),
+            Came::Above { item } => put_three(items, Some(*left), Some(*item), None),
+            Came::Stack { item } => {
+                put_three(items, Some(*left), Some(Item::Credit), Some(*item))
+            }
+        },
+    }
+}
+
+// Puts what a turn left and brought, and tells what the turn comes to for the task.
+#[inline(always)]
+fn settle(items: &mut Vec<Item>, after: &After) -> Turn
+    requires { length items.old.items + 3 ≤ vec_capacity items.old }
+    ensures items { items.new.items ≡ items.old.items ++ after_items after.now }
+    ensures told { result ≡ task_turn after.now.came (length items.new.items) }
+{
+    let left = items.len() + count_of(after);
+    put_after(items, after);
+    told_of(&after.came, left)
+}
+
 // The turn of an item, by its kind.
 fn turn_item<T: Steps, G: TaskGraph, Ke: Kernel>(
-    item: Item,
+    item: &Item,
     steps: &mut T,
     terms: &Terms<'_, G>,
     hand: &mut Option<BlockCells>,
@@ -147,35 +196,41 @@ fn turn_item<T: Steps, G: TaskGraph, Ke: Kernel>(
     hints: &mut Hints,
 ) -> After
     requires runs { Runs (G.graph terms.now.graph.now) terms.now.plan.now terms.now.lives (T.setting steps.old) }
-    requires stands { Stands (G.graph terms.now.graph.now) (T.setting steps.old) (T.view steps.old) (item) }
+    requires stands { Stands (G.graph terms.now.graph.now) (T.setting steps.old) (T.view steps.old) (item.now) }
     requires outcome { Makes (G.graph terms.now.graph.now) (Ke.outcome kernel.old) (Ke.fits kernel.old) (T.setting steps.old) }
-    requires left { is_over (T.setting steps.old).graph terms.now.plan.now item ≡ false }
-    requires top { FitsTop (T.setting steps.old) (T.view steps.old) hand.old item }
-    requires scratch { FitsScratch (T.setting steps.old) (G.graph terms.now.graph.now) scratch.old item }
+    requires left { is_over (T.setting steps.old).graph terms.now.plan.now item.now ≡ false }
+    requires top { FitsTop (T.setting steps.old) (T.view steps.old) hand.old item.now }
+    requires scratch { FitsScratch (T.setting steps.old) (G.graph terms.now.graph.now) scratch.old item.now }
     requires calls { 1 ≤ Ke.spare kernel.old }
     requires hints { length hints.old ≤ 2 }
     requires room { 2 ≤ T.KeyWords.spare steps.old }
-    ensures goes { Goes (G.graph terms.now.graph.now) (T.setting steps.old) (T.view steps.old) (T.view steps.new) (item_lines (T.setting steps.old).graph (item)) result }
+    ensures goes { Goes (G.graph terms.now.graph.now) (T.setting steps.old) (T.view steps.old) (T.view steps.new) (item_lines (T.setting steps.old).graph (item.now)) result }
     ensures top { AfterHand (T.setting steps.old) (T.view steps.new) hand.new result }
     ensures scratch { AfterScratch (T.setting steps.old) (G.graph terms.now.graph.now) scratch.new result }
-    ensures hints { hints.new ≡ item_hints item hints.old }
-    ensures calls { Ke.calls kernel.new ≡ item_calls (T.setting steps.old).graph item (Ke.calls kernel.old) }
+    ensures hints { hints.new ≡ item_hints item.now hints.old }
+    ensures calls { Ke.calls kernel.new ≡ item_calls (T.setting steps.old).graph item.now (Ke.calls kernel.old) }
     ensures kernel { SameKernel (Ke.outcome kernel.old) (Ke.outcome kernel.new) (Ke.fits kernel.old) (Ke.fits kernel.new) }
     ensures kernel_room { Ke.spare kernel.old ≤ Ke.spare kernel.new + 1 }
-    ensures spent { is_spent result.came ≡ not (steps_on item) }
-    ensures cause { ItemSpends (T.setting steps.old) item result.came }
-    ensures ends { item ≡ Item.Credit → after_items result ≡ [] }
-    ensures still { steps_on item ≡ false → steps.new ≡ steps.old }
+    ensures spent { is_spent result.came ≡ not (steps_on item.now) }
+    ensures cause { ItemSpends (T.setting steps.old) item.now result.came }
+    ensures ends { item.now ≡ Item.Credit → after_items result ≡ [] }
+    ensures still { steps_on item.now ≡ false → steps.new ≡ steps.old }
     ensures knows { Remembers (T.view steps.old) (T.view steps.new) }
-    ensures step { steps_on item ≡ true → HasStepped T.setting T.view T.KeyWords.made T.KeyWords.spare T.KeyWords.last T.shown T.happened T.lender T.others (item_prepared (T.setting steps.old).graph item) (item_event (T.setting steps.old) (T.view steps.old) terms.now.plan.now hand.old hand.new item) steps.old steps.new }
-    ensures rest { steps_on item ≡ true → LetsFall (T.setting steps.old) terms.now.plan.now (item_event (T.setting steps.old) (T.view steps.old) terms.now.plan.now hand.old hand.new item) (T.shown steps.new).1 (item_rest (T.setting steps.old) terms.now.plan.now hand.old item) (after_rest (T.setting steps.old) terms.now.plan.now hand.new result) }
-    ensures good { FallsGood (T.setting steps.old) hand.old item (item_rest (T.setting steps.old) terms.now.plan.now hand.old item) (after_rest (T.setting steps.old) terms.now.plan.now hand.new result) }
-    ensures again { LooksAgain (T.setting steps.old).graph terms.now.plan.now (T.shown steps.new).1 item (after_items result) }
+    ensures step { steps_on item.now ≡ true → HasStepped T.setting T.view T.KeyWords.made T.KeyWords.spare T.KeyWords.last T.shown T.happened T.lender T.others (item_prepared (T.setting steps.old).graph item.now) (item_event (T.setting steps.old) (T.view steps.old) terms.now.plan.now hand.old hand.new item.now) steps.old steps.new }
+    ensures rest { steps_on item.now ≡ true → LetsFall (T.setting steps.old) terms.now.plan.now (item_event (T.setting steps.old) (T.view steps.old) terms.now.plan.now hand.old hand.new item.now) (T.shown steps.new).1 (item_rest (T.setting steps.old) terms.now.plan.now hand.old item.now) (after_rest (T.setting steps.old) terms.now.plan.now hand.new result) }
+    ensures good { FallsGood (T.setting steps.old) hand.old item.now (item_rest (T.setting steps.old) terms.now.plan.now hand.old item.now) (after_rest (T.setting steps.old) terms.now.plan.now hand.new result) }
+    ensures again { LooksAgain (T.setting steps.old).graph terms.now.plan.now (T.shown steps.new).1 item.now (after_items result) }
 {
-    match item {
+    match *item {
         Item::Credit => give_up(steps, terms),
-        Item::Explore { explore } => explore.turn(steps, terms, hand),
-        Item::Compute { compute } => compute.turn(steps, terms, hand, scratch, kernel),
+        Item::Explore { explore } => {
+            let explored = explore.turn(steps, terms, hand);
+            explore.after(explored, terms.lives)
+        }
+        Item::Compute { compute } => {
+            let computed = compute.turn(steps, terms, hand, scratch, kernel);
+            compute.after(computed, terms.lives)
+        }
         Item::Close { close } => close.turn(steps, terms, hand),
         Item::Notify { notify } => notify.turn(steps, terms),
         Item::Look { look } => look.turn(steps, terms),
@@ -260,75 +315,37 @@ impl Task {
         }
     }
 
-    // Puts what is left of an item, and what came above it.
-    #[inline(always)]
-    fn put_after(&mut self, after: After)
-        requires { length self.old.items.items + 3 ≤ vec_capacity self.old.items }
-        ensures items { self.new.items.items ≡ self.old.items.items ++ after_items after }
-        ensures begun { self.new.begins ≡ self.old.begins }
-        ensures hand { self.new.hand ≡ self.old.hand }
-    {
-        let left = after.left;
-        let came = after.came;
-        match left {
-            None => match came {
-                Came::Nothing
-                | Came::Spent {
-                    key: _,
-                    life: _,
-                    cause: _,
-                } => {}
-                Came::Above { item } => put_three(&mut self.items, Some(item), None, None),
-                Came::Stack { item } => {
-                    put_three(&mut self.items, Some(Item::Credit), Some(item), None)
-                }
-            },
-            Some(left) => match came {
-                Came::Nothing
-                | Came::Spent {
-                    key: _,
-                    life: _,
-                    cause: _,
-                } => { put_three(&mut self.items, Some(left), None, None) }
-                Came::Above { item } => put_three(&mut self.items, Some(left), Some(item), None),
-                Came::Stack { item } => {
-                    put_three(&mut self.items, Some(left), Some(Item::Credit), Some(item))
-                }
-            },
-        }
-    }
-
     // Turns an item that was taken from the others, and puts what it leaves on them.
     fn turn_next<T: Steps, G: TaskGraph, Ke: Kernel>(
         &mut self,
-        item: Item,
+        item: &Item,
         steps: &mut T,
         run: &mut Run<'_, G, Ke>,
     ) -> Turn
         requires runs { Runs (G.graph run.old.graph.now) run.old.plan.now run.old.lives (T.setting steps.old) }
-        requires stands { Stands (G.graph run.old.graph.now) (T.setting steps.old) (T.view steps.old) item }
+        requires stands { Stands (G.graph run.old.graph.now) (T.setting steps.old) (T.view steps.old) item.now }
         requires outcome { Makes (G.graph run.old.graph.now) (Ke.outcome run.old.kernel.now) (Ke.fits run.old.kernel.now) (T.setting steps.old) }
-        requires left { is_over (T.setting steps.old).graph run.old.plan.now item ≡ false }
-        requires top { FitsTop (T.setting steps.old) (T.view steps.old) self.old.hand item }
-        requires scratch { FitsScratch (T.setting steps.old) (G.graph run.old.graph.now) run.old.scratch.now item }
+        requires left { is_over (T.setting steps.old).graph run.old.plan.now item.now ≡ false }
+        requires top { FitsTop (T.setting steps.old) (T.view steps.old) self.old.hand item.now }
+        requires scratch { FitsScratch (T.setting steps.old) (G.graph run.old.graph.now) run.old.scratch.now item.now }
         requires begun { self.old.begins ≡ None }
         requires space { length self.old.items.items + 3 ≤ vec_capacity self.old.items }
         requires calls { 1 ≤ Ke.spare run.old.kernel.now }
         requires hints { length run.old.hints.now ≤ 2 }
         requires room { 2 ≤ T.KeyWords.spare steps.old }
-        ensures turned { HasTurned (G.graph run.old.graph.now) (T.setting steps.old) (T.view steps.old) (T.view steps.new) item self.old.items.items self.new run.new.scratch.now result }
-        ensures calls { Ke.calls run.new.kernel.now ≡ item_calls (T.setting steps.old).graph item (Ke.calls run.old.kernel.now) }
+        ensures turned { HasTurned (G.graph run.old.graph.now) (T.setting steps.old) (T.view steps.old) (T.view steps.new) item.now self.old.items.items self.new run.new.scratch.now result }
+        ensures calls { Ke.calls run.new.kernel.now ≡ item_calls (T.setting steps.old).graph item.now (Ke.calls run.old.kernel.now) }
         ensures kernel { SameKernel (Ke.outcome run.old.kernel.now) (Ke.outcome run.new.kernel.now) (Ke.fits run.old.kernel.now) (Ke.fits run.new.kernel.now) }
         ensures kernel_room { Ke.spare run.old.kernel.now ≤ Ke.spare run.new.kernel.now + 1 }
-        ensures hints { run.new.hints.now ≡ item_hints item run.old.hints.now }
-        ensures spent { ends_run result ≡ not (steps_on item) }
-        ensures ends { item ≡ Item.Credit → self.new.items.items ≡ self.old.items.items }
-        ensures still { steps_on item ≡ false → steps.new ≡ steps.old }
+        ensures hints { run.new.hints.now ≡ item_hints item.now run.old.hints.now }
+        ensures spent { ends_run result ≡ not (steps_on item.now) }
+        ensures ends { item.now ≡ Item.Credit → self.new.items.items ≡ self.old.items.items }
+        ensures still { steps_on item.now ≡ false → steps.new ≡ steps.old }
         ensures knows { Remembers (T.view steps.old) (T.view steps.new) }
-        ensures step { steps_on item ≡ true → HasStepped T.setting T.view T.KeyWords.made T.KeyWords.spare T.KeyWords.last T.shown T.happened T.lender T.others (item_prepared (T.setting steps.old).graph item) (item_event (T.setting steps.old) (T.view steps.old) run.old.plan.now self.old.hand self.new.hand item) steps.old steps.new }
-        ensures rest { steps_on item ≡ true → (left : List Item) → self.new.items.items ≡ self.old.items.items ++ left → LetsFall (T.setting steps.old) run.old.plan.now (item_event (T.setting steps.old) (T.view steps.old) run.old.plan.now self.old.hand self.new.hand item) (T.shown steps.new).1 (item_rest (T.setting steps.old) run.old.plan.now self.old.hand item) (items_rest (T.setting steps.old) run.old.plan.now self.new.hand left) }
-        ensures good { (left : List Item) → self.new.items.items ≡ self.old.items.items ++ left → FallsGood (T.setting steps.old) self.old.hand item (item_rest (T.setting steps.old) run.old.plan.now self.old.hand item) (items_rest (T.setting steps.old) run.old.plan.now self.new.hand left) }
-        ensures again { LeavesAbove (T.setting steps.old).graph run.old.plan.now (T.shown steps.new).1 item self.old.items.items self.new.items.items }
+        ensures step { steps_on item.now ≡ true → HasStepped T.setting T.view T.KeyWords.made T.KeyWords.spare T.KeyWords.last T.shown T.happened T.lender T.others (item_prepared (T.setting steps.old).graph item.now) (item_event (T.setting steps.old) (T.view steps.old) run.old.plan.now self.old.hand self.new.hand item.now) steps.old steps.new }
+        ensures rest { steps_on item.now ≡ true → (left : List Item) → self.new.items.items ≡ self.old.items.items ++ left → LetsFall (T.setting steps.old) run.old.plan.now (item_event (T.setting steps.old) (T.view steps.old) run.old.plan.now self.old.hand self.new.hand item.now) (T.shown steps.new).1 (item_rest (T.setting steps.old) run.old.plan.now self.old.hand item.now) (items_rest (T.setting steps.old) run.old.plan.now self.new.hand left) }
+        ensures good { (left : List Item) → self.new.items.items ≡ self.old.items.items ++ left → FallsGood (T.setting steps.old) self.old.hand item.now (item_rest (T.setting steps.old) run.old.plan.now self.old.hand item.now) (items_rest (T.setting steps.old) run.old.plan.now self.new.hand left) }
+        ensures again { LeavesAbove (T.setting steps.old).graph run.old.plan.now (T.shown steps.new).1 item.now self.old.items.items self.new.items.items }
         ensures same_graph { run.new.graph.now ≡ run.old.graph.now }
         ensures same_plan { run.new.plan.now ≡ run.old.plan.now }
         ensures same_lives { run.new.lives ≡ run.old.lives }
@@ -341,19 +358,18 @@ impl Task {
             plan: run.plan,
             lives: run.lives,
         };
-        let after = turn_item(
-            item,
-            steps,
-            &terms,
-            &mut self.hand,
-            run.scratch,
-            run.kernel,
-            run.hints,
-        );
-        let left = self.items.len() + count_of(&after);
-        let told = told_of(after.came, left);
-        self.put_after(after);
-        told
+        settle(
+            &mut self.items,
+            &turn_item(
+                item,
+                steps,
+                &terms,
+                &mut self.hand,
+                run.scratch,
+                run.kernel,
+                run.hints,
+            ),
+        )
     }
 
     /// One step of the last item that has something left to do; no step where the life that it replaces is the
@@ -398,7 +414,7 @@ impl Task {
             lives: run.lives,
         };
         match next(&mut self.items, &terms) {
-            Some(item) => self.turn_next(item, steps, run),
+            Some(item) => self.turn_next(&item, steps, run),
             None => Turn::Done,
         }
     }

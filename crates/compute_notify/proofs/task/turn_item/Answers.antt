@@ -1,9 +1,9 @@
 use Rattle.std.proofs.Common.{◌≡◌, ℕ, false, not, ap, refl, subst, sym, ◌∙◌}
 use Rattle.recovery.specs.Recovering.{is_last, is_over as is_passed, makes_step}
 use Rattle.compute_notify.specs.Eventing.{item_calls, item_event, item_hints, item_prepared, steps_on}
-use Rattle.compute_notify.specs.Items.{Goes, ItemSpends, Stands, is_over, is_spent, item_lines}
+use Rattle.compute_notify.specs.Items.{Goes, ItemSpends, Stands, computed_after, explored_after, is_over, is_spent, item_lines}
 use Rattle.compute_notify.specs.Resting.{FallsGood, LetsFall, LooksAgain, after_rest, item_rest}
-use Rattle.compute_notify.specs.Rooms.{FitsScratch, is_bare}
+use Rattle.compute_notify.specs.Rooms.{AfterScratch, FitsScratch, is_bare, is_plain}
 use Rattle.compute_notify.specs.Stepping.{HasStepped}
 use Rattle.compute_notify.specs.Tasks.{after_items}
 use Rattle.compute_notify.specs.Working.{AfterHand, FitsTop}
@@ -26,7 +26,7 @@ returns-in-Credit-clause-top g c = let e = g.T.Steps.setting c.args.steps.now in
 
 pub returns-in-Credit-clause-scratch : goal.returns-in-Credit-clause-scratch
 returns-in-Credit-clause-scratch g c = let e = g.T.Steps.setting c.args.steps.now in let v = g.T.Steps.view c.args.steps.now in let p = c.args.terms.now.plan.now in let t = g.G.TaskGraph.graph c.args.terms.now.graph.now in let h = c.args.hand.now in
-    bare_scratch e t c.args.scratch.now (scratch_room e t c.args.scratch.now c.args.item c.requires.scratch) c.give_up.result (ap is_bare c.give_up.ensures.gone)
+    bare_scratch e t c.args.scratch.now (scratch_room e t c.args.scratch.now c.args.item.now c.requires.scratch) c.give_up.result (ap is_bare c.give_up.ensures.gone)
 
 pub returns-in-Credit-clause-hints : goal.returns-in-Credit-clause-hints
 returns-in-Credit-clause-hints g c = ap (λ x. item_hints x c.args.hints.now) (sym c.in-Credit.is)
@@ -65,14 +65,14 @@ give_up-requires-clause-stands g c κs within = let e = g.T.Steps.setting c.args
 
 pub returns-in-Explore-clause-goes : goal.returns-in-Explore-clause-goes
 returns-in-Explore-clause-goes g c = let e = g.T.Steps.setting c.args.steps.now in let v = g.T.Steps.view c.args.steps.now in let p = c.args.terms.now.plan.now in let t = g.G.TaskGraph.graph c.args.terms.now.graph.now in let h = c.args.hand.now in
-    subst (λ x. Goes t e v (g.T.Steps.view c.turn.new.steps) (item_lines e.graph x) c.turn.result) (sym c.in-Explore.is) c.turn.ensures.goes
+    subst (λ a. Goes t e v (g.T.Steps.view c.turn-explored.new.steps) (item_lines e.graph c.args.item.now) a) (sym c.after.ensures) (subst (λ x. Goes t e v (g.T.Steps.view c.turn-explored.new.steps) (item_lines e.graph x) (explored_after c.in-Explore.explore c.args.terms.now.lives c.turn-explored.result)) (sym c.in-Explore.is) c.turn-explored.ensures.goes)
 
 pub returns-in-Explore-clause-top : goal.returns-in-Explore-clause-top
-returns-in-Explore-clause-top g c = c.turn.ensures.top
+returns-in-Explore-clause-top g c = subst (AfterHand (g.T.Steps.setting c.args.steps.now) (g.T.Steps.view c.turn-explored.new.steps) c.turn-explored.new.hand) (sym c.after.ensures) c.turn-explored.ensures.top
 
 pub returns-in-Explore-clause-scratch : goal.returns-in-Explore-clause-scratch
 returns-in-Explore-clause-scratch g c = let e = g.T.Steps.setting c.args.steps.now in let v = g.T.Steps.view c.args.steps.now in let p = c.args.terms.now.plan.now in let t = g.G.TaskGraph.graph c.args.terms.now.graph.now in let h = c.args.hand.now in
-    bare_scratch e t c.args.scratch.now (scratch_room e t c.args.scratch.now c.args.item c.requires.scratch) c.turn.result (plain_bare c.turn.result c.turn.ensures.plain)
+    bare_scratch e t c.args.scratch.now (scratch_room e t c.args.scratch.now c.args.item.now c.requires.scratch) c.after.result (ap is_bare c.after.ensures ∙ plain_bare (explored_after c.in-Explore.explore c.args.terms.now.lives c.turn-explored.result) c.turn-explored.ensures.plain)
 
 pub returns-in-Explore-clause-hints : goal.returns-in-Explore-clause-hints
 returns-in-Explore-clause-hints g c = ap (λ x. item_hints x c.args.hints.now) (sym c.in-Explore.is)
@@ -81,102 +81,102 @@ pub returns-in-Explore-clause-calls : goal.returns-in-Explore-clause-calls
 returns-in-Explore-clause-calls g c = ap (λ x. item_calls (g.T.Steps.setting c.args.steps.now).graph x (g.Ke.Kernel.calls c.args.kernel.now)) (sym c.in-Explore.is)
 
 pub returns-in-Explore-clause-spent : goal.returns-in-Explore-clause-spent
-returns-in-Explore-clause-spent g c = plain_unspent c.turn.result c.turn.ensures.plain ∙ ap (λ x. not (steps_on x)) (sym c.in-Explore.is)
+returns-in-Explore-clause-spent g c = plain_unspent c.after.result (ap is_plain c.after.ensures ∙ c.turn-explored.ensures.plain) ∙ ap (λ x. not (steps_on x)) (sym c.in-Explore.is)
 
 pub returns-in-Explore-clause-cause : goal.returns-in-Explore-clause-cause
-returns-in-Explore-clause-cause g c = subst (λ x. ItemSpends (g.T.Steps.setting c.args.steps.now) x c.turn.result.came) (sym c.in-Explore.is) (plain_unspent c.turn.result c.turn.ensures.plain)
+returns-in-Explore-clause-cause g c = subst (λ x. ItemSpends (g.T.Steps.setting c.args.steps.now) x c.after.result.came) (sym c.in-Explore.is) (plain_unspent c.after.result (ap is_plain c.after.ensures ∙ c.turn-explored.ensures.plain))
 
 pub returns-in-Explore-clause-still : goal.returns-in-Explore-clause-still
 returns-in-Explore-clause-still g c off = absurd (let a = sym (ap steps_on c.in-Explore.is) ∙ off in cc)
 
 pub returns-in-Explore-clause-step : goal.returns-in-Explore-clause-step
 returns-in-Explore-clause-step g c on = let e = g.T.Steps.setting c.args.steps.now in let v = g.T.Steps.view c.args.steps.now in let p = c.args.terms.now.plan.now in let t = g.G.TaskGraph.graph c.args.terms.now.graph.now in let h = c.args.hand.now in
-    subst (λ x. HasStepped g.T.Steps.setting g.T.Steps.view g.T.KeyWords.made g.T.KeyWords.spare g.T.KeyWords.last g.T.Steps.shown g.T.Steps.happened g.T.Steps.lender g.T.Steps.others (item_prepared e.graph x) (item_event e v p h c.turn.new.hand x) c.args.steps.now c.turn.new.steps) (sym c.in-Explore.is) c.turn.ensures.step
+    subst (λ x. HasStepped g.T.Steps.setting g.T.Steps.view g.T.KeyWords.made g.T.KeyWords.spare g.T.KeyWords.last g.T.Steps.shown g.T.Steps.happened g.T.Steps.lender g.T.Steps.others (item_prepared e.graph x) (item_event e v p h c.turn-explored.new.hand x) c.args.steps.now c.turn-explored.new.steps) (sym c.in-Explore.is) c.turn-explored.ensures.step
 
 pub returns-in-Explore-clause-rest : goal.returns-in-Explore-clause-rest
 returns-in-Explore-clause-rest g c on = let e = g.T.Steps.setting c.args.steps.now in let v = g.T.Steps.view c.args.steps.now in let p = c.args.terms.now.plan.now in let t = g.G.TaskGraph.graph c.args.terms.now.graph.now in let h = c.args.hand.now in
-    let n : ℕ = (g.T.Steps.shown c.turn.new.steps).1 in
-    subst (λ x. LetsFall e p (item_event e v p h c.turn.new.hand x) n (item_rest e p h x) (after_rest e p c.turn.new.hand c.turn.result)) (sym c.in-Explore.is)
-    c.turn.ensures.rest
+    let n : ℕ = (g.T.Steps.shown c.turn-explored.new.steps).1 in
+    subst (λ a. LetsFall e p (item_event e v p h c.turn-explored.new.hand c.args.item.now) n (item_rest e p h c.args.item.now) (after_rest e p c.turn-explored.new.hand a)) (sym c.after.ensures) (subst (λ x. LetsFall e p (item_event e v p h c.turn-explored.new.hand x) n (item_rest e p h x) (after_rest e p c.turn-explored.new.hand (explored_after c.in-Explore.explore c.args.terms.now.lives c.turn-explored.result))) (sym c.in-Explore.is)
+    c.turn-explored.ensures.rest)
 
 pub returns-in-Explore-clause-ends : goal.returns-in-Explore-clause-ends
 returns-in-Explore-clause-ends g c credit = absurd (let a = sym c.in-Explore.is ∙ credit in cc)
 
 pub returns-in-Explore-clause-knows : goal.returns-in-Explore-clause-knows
-returns-in-Explore-clause-knows g c = c.turn.ensures.knows
+returns-in-Explore-clause-knows g c = c.turn-explored.ensures.knows
 
-pub turn-requires-clause-stands : goal.turn-requires-clause-stands
-turn-requires-clause-stands g c κs within = let e = g.T.Steps.setting c.args.steps.now in let v = g.T.Steps.view c.args.steps.now in let p = c.args.terms.now.plan.now in let t = g.G.TaskGraph.graph c.args.terms.now.graph.now in let h = c.args.hand.now in
+pub turn-explored-requires-clause-stands : goal.turn-explored-requires-clause-stands
+turn-explored-requires-clause-stands g c κs within = let e = g.T.Steps.setting c.args.steps.now in let v = g.T.Steps.view c.args.steps.now in let p = c.args.terms.now.plan.now in let t = g.G.TaskGraph.graph c.args.terms.now.graph.now in let h = c.args.hand.now in
     subst (Stands t e v) c.in-Explore.is c.requires.stands
 
-pub turn-requires-clause-top : goal.turn-requires-clause-top
-turn-requires-clause-top g c κs within = let e = g.T.Steps.setting c.args.steps.now in let v = g.T.Steps.view c.args.steps.now in let p = c.args.terms.now.plan.now in let t = g.G.TaskGraph.graph c.args.terms.now.graph.now in let h = c.args.hand.now in
+pub turn-explored-requires-clause-top : goal.turn-explored-requires-clause-top
+turn-explored-requires-clause-top g c κs within = let e = g.T.Steps.setting c.args.steps.now in let v = g.T.Steps.view c.args.steps.now in let p = c.args.terms.now.plan.now in let t = g.G.TaskGraph.graph c.args.terms.now.graph.now in let h = c.args.hand.now in
     subst (FitsTop e v h) c.in-Explore.is c.requires.top
 
 pub returns-in-Compute-clause-goes : goal.returns-in-Compute-clause-goes
 returns-in-Compute-clause-goes g c = let e = g.T.Steps.setting c.args.steps.now in let v = g.T.Steps.view c.args.steps.now in let p = c.args.terms.now.plan.now in let t = g.G.TaskGraph.graph c.args.terms.now.graph.now in let h = c.args.hand.now in
-    subst (λ x. Goes t e v (g.T.Steps.view c.turn-in-Compute.new.steps) (item_lines e.graph x) c.turn-in-Compute.result) (sym c.in-Compute.is) c.turn-in-Compute.ensures.goes
+    subst (λ a. Goes t e v (g.T.Steps.view c.turn-computed.new.steps) (item_lines e.graph c.args.item.now) a) (sym c.after-in-Compute.ensures) (subst (λ x. Goes t e v (g.T.Steps.view c.turn-computed.new.steps) (item_lines e.graph x) (computed_after c.in-Compute.compute c.args.terms.now.lives c.turn-computed.result)) (sym c.in-Compute.is) c.turn-computed.ensures.goes)
 
 pub returns-in-Compute-clause-top : goal.returns-in-Compute-clause-top
-returns-in-Compute-clause-top g c = c.turn-in-Compute.ensures.top
+returns-in-Compute-clause-top g c = subst (AfterHand (g.T.Steps.setting c.args.steps.now) (g.T.Steps.view c.turn-computed.new.steps) c.turn-computed.new.hand) (sym c.after-in-Compute.ensures) c.turn-computed.ensures.top
 
 pub returns-in-Compute-clause-scratch : goal.returns-in-Compute-clause-scratch
-returns-in-Compute-clause-scratch g c = c.turn-in-Compute.ensures.scratch
+returns-in-Compute-clause-scratch g c = subst (AfterScratch (g.T.Steps.setting c.args.steps.now) (g.G.TaskGraph.graph c.args.terms.now.graph.now) c.turn-computed.new.scratch) (sym c.after-in-Compute.ensures) c.turn-computed.ensures.scratch
 
 pub returns-in-Compute-clause-hints : goal.returns-in-Compute-clause-hints
 returns-in-Compute-clause-hints g c = ap (λ x. item_hints x c.args.hints.now) (sym c.in-Compute.is)
 
 pub returns-in-Compute-clause-calls : goal.returns-in-Compute-clause-calls
-returns-in-Compute-clause-calls g c = c.turn-in-Compute.ensures.calls ∙ ap (λ x. item_calls (g.T.Steps.setting c.args.steps.now).graph x (g.Ke.Kernel.calls c.args.kernel.now)) (sym c.in-Compute.is)
+returns-in-Compute-clause-calls g c = c.turn-computed.ensures.calls ∙ ap (λ x. item_calls (g.T.Steps.setting c.args.steps.now).graph x (g.Ke.Kernel.calls c.args.kernel.now)) (sym c.in-Compute.is)
 
 pub returns-in-Compute-clause-spent : goal.returns-in-Compute-clause-spent
-returns-in-Compute-clause-spent g c = c.turn-in-Compute.ensures.spent ∙ ap (λ x. not (steps_on x)) (sym c.in-Compute.is)
+returns-in-Compute-clause-spent g c = (ap (λ (a : After). is_spent a.came) c.after-in-Compute.ensures ∙ c.turn-computed.ensures.spent) ∙ ap (λ x. not (steps_on x)) (sym c.in-Compute.is)
 
 pub returns-in-Compute-clause-cause : goal.returns-in-Compute-clause-cause
-returns-in-Compute-clause-cause g c = subst (λ x. ItemSpends (g.T.Steps.setting c.args.steps.now) x c.turn-in-Compute.result.came) (sym c.in-Compute.is) (c.turn-in-Compute.ensures.spent)
+returns-in-Compute-clause-cause g c = subst (λ x. ItemSpends (g.T.Steps.setting c.args.steps.now) x c.after-in-Compute.result.came) (sym c.in-Compute.is) ((ap (λ (a : After). is_spent a.came) c.after-in-Compute.ensures ∙ c.turn-computed.ensures.spent))
 
 pub returns-in-Compute-clause-still : goal.returns-in-Compute-clause-still
 returns-in-Compute-clause-still g c off = absurd (let a = sym (ap steps_on c.in-Compute.is) ∙ off in cc)
 
 pub returns-in-Compute-clause-step : goal.returns-in-Compute-clause-step
 returns-in-Compute-clause-step g c on = let e = g.T.Steps.setting c.args.steps.now in let v = g.T.Steps.view c.args.steps.now in let p = c.args.terms.now.plan.now in let t = g.G.TaskGraph.graph c.args.terms.now.graph.now in let h = c.args.hand.now in
-    subst (λ x. HasStepped g.T.Steps.setting g.T.Steps.view g.T.KeyWords.made g.T.KeyWords.spare g.T.KeyWords.last g.T.Steps.shown g.T.Steps.happened g.T.Steps.lender g.T.Steps.others (item_prepared e.graph x) (item_event e v p h c.turn-in-Compute.new.hand x) c.args.steps.now c.turn-in-Compute.new.steps) (sym c.in-Compute.is) c.turn-in-Compute.ensures.step
+    subst (λ x. HasStepped g.T.Steps.setting g.T.Steps.view g.T.KeyWords.made g.T.KeyWords.spare g.T.KeyWords.last g.T.Steps.shown g.T.Steps.happened g.T.Steps.lender g.T.Steps.others (item_prepared e.graph x) (item_event e v p h c.turn-computed.new.hand x) c.args.steps.now c.turn-computed.new.steps) (sym c.in-Compute.is) c.turn-computed.ensures.step
 
 pub returns-in-Compute-clause-rest : goal.returns-in-Compute-clause-rest
 returns-in-Compute-clause-rest g c on = let e = g.T.Steps.setting c.args.steps.now in let v = g.T.Steps.view c.args.steps.now in let p = c.args.terms.now.plan.now in let t = g.G.TaskGraph.graph c.args.terms.now.graph.now in let h = c.args.hand.now in
-    let n : ℕ = (g.T.Steps.shown c.turn-in-Compute.new.steps).1 in
-    subst (λ x. LetsFall e p (item_event e v p h c.turn-in-Compute.new.hand x) n (item_rest e p h x) (after_rest e p c.turn-in-Compute.new.hand c.turn-in-Compute.result)) (sym c.in-Compute.is)
-    c.turn-in-Compute.ensures.rest
+    let n : ℕ = (g.T.Steps.shown c.turn-computed.new.steps).1 in
+    subst (λ a. LetsFall e p (item_event e v p h c.turn-computed.new.hand c.args.item.now) n (item_rest e p h c.args.item.now) (after_rest e p c.turn-computed.new.hand a)) (sym c.after-in-Compute.ensures) (subst (λ x. LetsFall e p (item_event e v p h c.turn-computed.new.hand x) n (item_rest e p h x) (after_rest e p c.turn-computed.new.hand (computed_after c.in-Compute.compute c.args.terms.now.lives c.turn-computed.result))) (sym c.in-Compute.is)
+    c.turn-computed.ensures.rest)
 
 pub returns-in-Compute-clause-ends : goal.returns-in-Compute-clause-ends
 returns-in-Compute-clause-ends g c credit = absurd (let a = sym c.in-Compute.is ∙ credit in cc)
 
 pub returns-in-Compute-clause-knows : goal.returns-in-Compute-clause-knows
 returns-in-Compute-clause-knows g c = let e = g.T.Steps.setting c.args.steps.now in let v = g.T.Steps.view c.args.steps.now in let p = c.args.terms.now.plan.now in let t = g.G.TaskGraph.graph c.args.terms.now.graph.now in let h = c.args.hand.now in
-    stepped_knows g.T.KeyWords.spare c.turn-in-Compute.ensures.step (compute_row e v p h c.turn-in-Compute.new.hand c.in-Compute.compute) (prepared_knows e.graph c.in-Compute.compute v)
+    stepped_knows g.T.KeyWords.spare c.turn-computed.ensures.step (compute_row e v p h c.turn-computed.new.hand c.in-Compute.compute) (prepared_knows e.graph c.in-Compute.compute v)
 
-pub turn-requires-in-Compute-clause-stands : goal.turn-requires-in-Compute-clause-stands
-turn-requires-in-Compute-clause-stands g c κs within = let e = g.T.Steps.setting c.args.steps.now in let v = g.T.Steps.view c.args.steps.now in let p = c.args.terms.now.plan.now in let t = g.G.TaskGraph.graph c.args.terms.now.graph.now in let h = c.args.hand.now in
+pub turn-computed-requires-clause-stands : goal.turn-computed-requires-clause-stands
+turn-computed-requires-clause-stands g c κs within = let e = g.T.Steps.setting c.args.steps.now in let v = g.T.Steps.view c.args.steps.now in let p = c.args.terms.now.plan.now in let t = g.G.TaskGraph.graph c.args.terms.now.graph.now in let h = c.args.hand.now in
     subst (Stands t e v) c.in-Compute.is c.requires.stands
 
-pub turn-requires-in-Compute-clause-top : goal.turn-requires-in-Compute-clause-top
-turn-requires-in-Compute-clause-top g c κs within = let e = g.T.Steps.setting c.args.steps.now in let v = g.T.Steps.view c.args.steps.now in let p = c.args.terms.now.plan.now in let t = g.G.TaskGraph.graph c.args.terms.now.graph.now in let h = c.args.hand.now in
+pub turn-computed-requires-clause-top : goal.turn-computed-requires-clause-top
+turn-computed-requires-clause-top g c κs within = let e = g.T.Steps.setting c.args.steps.now in let v = g.T.Steps.view c.args.steps.now in let p = c.args.terms.now.plan.now in let t = g.G.TaskGraph.graph c.args.terms.now.graph.now in let h = c.args.hand.now in
     subst (FitsTop e v h) c.in-Compute.is c.requires.top
 
-pub turn-requires-in-Compute-clause-scratch : goal.turn-requires-in-Compute-clause-scratch
-turn-requires-in-Compute-clause-scratch g c κs within = let e = g.T.Steps.setting c.args.steps.now in let v = g.T.Steps.view c.args.steps.now in let p = c.args.terms.now.plan.now in let t = g.G.TaskGraph.graph c.args.terms.now.graph.now in let h = c.args.hand.now in
+pub turn-computed-requires-clause-scratch : goal.turn-computed-requires-clause-scratch
+turn-computed-requires-clause-scratch g c κs within = let e = g.T.Steps.setting c.args.steps.now in let v = g.T.Steps.view c.args.steps.now in let p = c.args.terms.now.plan.now in let t = g.G.TaskGraph.graph c.args.terms.now.graph.now in let h = c.args.hand.now in
     subst (FitsScratch e t c.args.scratch.now) c.in-Compute.is c.requires.scratch
 
 pub returns-in-Close-clause-goes : goal.returns-in-Close-clause-goes
 returns-in-Close-clause-goes g c = let e = g.T.Steps.setting c.args.steps.now in let v = g.T.Steps.view c.args.steps.now in let p = c.args.terms.now.plan.now in let t = g.G.TaskGraph.graph c.args.terms.now.graph.now in let h = c.args.hand.now in
-    subst (λ x. Goes t e v (g.T.Steps.view c.turn-in-Close.new.steps) (item_lines e.graph x) c.turn-in-Close.result) (sym c.in-Close.is) c.turn-in-Close.ensures.goes
+    subst (λ x. Goes t e v (g.T.Steps.view c.turn.new.steps) (item_lines e.graph x) c.turn.result) (sym c.in-Close.is) c.turn.ensures.goes
 
 pub returns-in-Close-clause-top : goal.returns-in-Close-clause-top
-returns-in-Close-clause-top g c = c.turn-in-Close.ensures.top
+returns-in-Close-clause-top g c = c.turn.ensures.top
 
 pub returns-in-Close-clause-scratch : goal.returns-in-Close-clause-scratch
 returns-in-Close-clause-scratch g c = let e = g.T.Steps.setting c.args.steps.now in let v = g.T.Steps.view c.args.steps.now in let p = c.args.terms.now.plan.now in let t = g.G.TaskGraph.graph c.args.terms.now.graph.now in let h = c.args.hand.now in
-    bare_scratch e t c.args.scratch.now (scratch_room e t c.args.scratch.now c.args.item c.requires.scratch) c.turn-in-Close.result (plain_bare c.turn-in-Close.result c.turn-in-Close.ensures.plain)
+    bare_scratch e t c.args.scratch.now (scratch_room e t c.args.scratch.now c.args.item.now c.requires.scratch) c.turn.result (plain_bare c.turn.result c.turn.ensures.plain)
 
 pub returns-in-Close-clause-hints : goal.returns-in-Close-clause-hints
 returns-in-Close-clause-hints g c = ap (λ x. item_hints x c.args.hints.now) (sym c.in-Close.is)
@@ -185,41 +185,41 @@ pub returns-in-Close-clause-calls : goal.returns-in-Close-clause-calls
 returns-in-Close-clause-calls g c = ap (λ x. item_calls (g.T.Steps.setting c.args.steps.now).graph x (g.Ke.Kernel.calls c.args.kernel.now)) (sym c.in-Close.is)
 
 pub returns-in-Close-clause-spent : goal.returns-in-Close-clause-spent
-returns-in-Close-clause-spent g c = plain_unspent c.turn-in-Close.result c.turn-in-Close.ensures.plain ∙ ap (λ x. not (steps_on x)) (sym c.in-Close.is)
+returns-in-Close-clause-spent g c = plain_unspent c.turn.result c.turn.ensures.plain ∙ ap (λ x. not (steps_on x)) (sym c.in-Close.is)
 
 pub returns-in-Close-clause-cause : goal.returns-in-Close-clause-cause
-returns-in-Close-clause-cause g c = subst (λ x. ItemSpends (g.T.Steps.setting c.args.steps.now) x c.turn-in-Close.result.came) (sym c.in-Close.is) (plain_unspent c.turn-in-Close.result c.turn-in-Close.ensures.plain)
+returns-in-Close-clause-cause g c = subst (λ x. ItemSpends (g.T.Steps.setting c.args.steps.now) x c.turn.result.came) (sym c.in-Close.is) (plain_unspent c.turn.result c.turn.ensures.plain)
 
 pub returns-in-Close-clause-still : goal.returns-in-Close-clause-still
 returns-in-Close-clause-still g c off = absurd (let a = sym (ap steps_on c.in-Close.is) ∙ off in cc)
 
 pub returns-in-Close-clause-step : goal.returns-in-Close-clause-step
 returns-in-Close-clause-step g c on = let e = g.T.Steps.setting c.args.steps.now in let v = g.T.Steps.view c.args.steps.now in let p = c.args.terms.now.plan.now in let t = g.G.TaskGraph.graph c.args.terms.now.graph.now in let h = c.args.hand.now in
-    subst (λ x. HasStepped g.T.Steps.setting g.T.Steps.view g.T.KeyWords.made g.T.KeyWords.spare g.T.KeyWords.last g.T.Steps.shown g.T.Steps.happened g.T.Steps.lender g.T.Steps.others (item_prepared e.graph x) (item_event e v p h c.turn-in-Close.new.hand x) c.args.steps.now c.turn-in-Close.new.steps) (sym c.in-Close.is) c.turn-in-Close.ensures.step
+    subst (λ x. HasStepped g.T.Steps.setting g.T.Steps.view g.T.KeyWords.made g.T.KeyWords.spare g.T.KeyWords.last g.T.Steps.shown g.T.Steps.happened g.T.Steps.lender g.T.Steps.others (item_prepared e.graph x) (item_event e v p h c.turn.new.hand x) c.args.steps.now c.turn.new.steps) (sym c.in-Close.is) c.turn.ensures.step
 
 pub returns-in-Close-clause-rest : goal.returns-in-Close-clause-rest
 returns-in-Close-clause-rest g c on = let e = g.T.Steps.setting c.args.steps.now in let v = g.T.Steps.view c.args.steps.now in let p = c.args.terms.now.plan.now in let t = g.G.TaskGraph.graph c.args.terms.now.graph.now in let h = c.args.hand.now in
-    let n : ℕ = (g.T.Steps.shown c.turn-in-Close.new.steps).1 in
-    subst (λ x. LetsFall e p (item_event e v p h c.turn-in-Close.new.hand x) n (item_rest e p h x) (after_rest e p c.turn-in-Close.new.hand c.turn-in-Close.result)) (sym c.in-Close.is)
-    c.turn-in-Close.ensures.rest
+    let n : ℕ = (g.T.Steps.shown c.turn.new.steps).1 in
+    subst (λ x. LetsFall e p (item_event e v p h c.turn.new.hand x) n (item_rest e p h x) (after_rest e p c.turn.new.hand c.turn.result)) (sym c.in-Close.is)
+    c.turn.ensures.rest
 
 pub returns-in-Close-clause-ends : goal.returns-in-Close-clause-ends
 returns-in-Close-clause-ends g c credit = absurd (let a = sym c.in-Close.is ∙ credit in cc)
 
 pub returns-in-Close-clause-knows : goal.returns-in-Close-clause-knows
 returns-in-Close-clause-knows g c = let e = g.T.Steps.setting c.args.steps.now in let v = g.T.Steps.view c.args.steps.now in let p = c.args.terms.now.plan.now in let t = g.G.TaskGraph.graph c.args.terms.now.graph.now in let h = c.args.hand.now in
-    stepped_knows g.T.KeyWords.spare c.turn-in-Close.ensures.step (close_row e v p h c.turn-in-Close.new.hand c.in-Close.close) (same_knows v)
+    stepped_knows g.T.KeyWords.spare c.turn.ensures.step (close_row e v p h c.turn.new.hand c.in-Close.close) (same_knows v)
 
-pub turn-requires-in-Close-clause-stands : goal.turn-requires-in-Close-clause-stands
-turn-requires-in-Close-clause-stands g c κs within = let e = g.T.Steps.setting c.args.steps.now in let v = g.T.Steps.view c.args.steps.now in let p = c.args.terms.now.plan.now in let t = g.G.TaskGraph.graph c.args.terms.now.graph.now in let h = c.args.hand.now in
+pub turn-requires-clause-stands : goal.turn-requires-clause-stands
+turn-requires-clause-stands g c κs within = let e = g.T.Steps.setting c.args.steps.now in let v = g.T.Steps.view c.args.steps.now in let p = c.args.terms.now.plan.now in let t = g.G.TaskGraph.graph c.args.terms.now.graph.now in let h = c.args.hand.now in
     subst (Stands t e v) c.in-Close.is c.requires.stands
 
-pub turn-requires-in-Close-clause-top : goal.turn-requires-in-Close-clause-top
-turn-requires-in-Close-clause-top g c κs within = let e = g.T.Steps.setting c.args.steps.now in let v = g.T.Steps.view c.args.steps.now in let p = c.args.terms.now.plan.now in let t = g.G.TaskGraph.graph c.args.terms.now.graph.now in let h = c.args.hand.now in
+pub turn-requires-clause-top : goal.turn-requires-clause-top
+turn-requires-clause-top g c κs within = let e = g.T.Steps.setting c.args.steps.now in let v = g.T.Steps.view c.args.steps.now in let p = c.args.terms.now.plan.now in let t = g.G.TaskGraph.graph c.args.terms.now.graph.now in let h = c.args.hand.now in
     subst (FitsTop e v h) c.in-Close.is c.requires.top
 
-pub turn-requires-in-Close-clause-left : goal.turn-requires-in-Close-clause-left
-turn-requires-in-Close-clause-left g c κs within = subst (λ x. is_over (g.T.Steps.setting c.args.steps.now).graph c.args.terms.now.plan.now x ≡ false) c.in-Close.is c.requires.left
+pub turn-requires-clause-left : goal.turn-requires-clause-left
+turn-requires-clause-left g c κs within = subst (λ x. is_over (g.T.Steps.setting c.args.steps.now).graph c.args.terms.now.plan.now x ≡ false) c.in-Close.is c.requires.left
 
 pub returns-in-Notify-clause-goes : goal.returns-in-Notify-clause-goes
 returns-in-Notify-clause-goes g c = let e = g.T.Steps.setting c.args.steps.now in let v = g.T.Steps.view c.args.steps.now in let p = c.args.terms.now.plan.now in let t = g.G.TaskGraph.graph c.args.terms.now.graph.now in let h = c.args.hand.now in
@@ -231,7 +231,7 @@ returns-in-Notify-clause-top g c = let e = g.T.Steps.setting c.args.steps.now in
 
 pub returns-in-Notify-clause-scratch : goal.returns-in-Notify-clause-scratch
 returns-in-Notify-clause-scratch g c = let e = g.T.Steps.setting c.args.steps.now in let v = g.T.Steps.view c.args.steps.now in let p = c.args.terms.now.plan.now in let t = g.G.TaskGraph.graph c.args.terms.now.graph.now in let h = c.args.hand.now in
-    bare_scratch e t c.args.scratch.now (scratch_room e t c.args.scratch.now c.args.item c.requires.scratch) c.turn-in-Notify.result (plain_bare c.turn-in-Notify.result c.turn-in-Notify.ensures.plain)
+    bare_scratch e t c.args.scratch.now (scratch_room e t c.args.scratch.now c.args.item.now c.requires.scratch) c.turn-in-Notify.result (plain_bare c.turn-in-Notify.result c.turn-in-Notify.ensures.plain)
 
 pub returns-in-Notify-clause-hints : goal.returns-in-Notify-clause-hints
 returns-in-Notify-clause-hints g c = ap (λ x. item_hints x c.args.hints.now) (sym c.in-Notify.is)
@@ -281,7 +281,7 @@ returns-in-Look-clause-top g c = let e = g.T.Steps.setting c.args.steps.now in l
 
 pub returns-in-Look-clause-scratch : goal.returns-in-Look-clause-scratch
 returns-in-Look-clause-scratch g c = let e = g.T.Steps.setting c.args.steps.now in let v = g.T.Steps.view c.args.steps.now in let p = c.args.terms.now.plan.now in let t = g.G.TaskGraph.graph c.args.terms.now.graph.now in let h = c.args.hand.now in
-    bare_scratch e t c.args.scratch.now (scratch_room e t c.args.scratch.now c.args.item c.requires.scratch) c.turn-in-Look.result (plain_bare c.turn-in-Look.result c.turn-in-Look.ensures.plain)
+    bare_scratch e t c.args.scratch.now (scratch_room e t c.args.scratch.now c.args.item.now c.requires.scratch) c.turn-in-Look.result (plain_bare c.turn-in-Look.result c.turn-in-Look.ensures.plain)
 
 pub returns-in-Look-clause-hints : goal.returns-in-Look-clause-hints
 returns-in-Look-clause-hints g c = ap (λ x. item_hints x c.args.hints.now) (sym c.in-Look.is)
@@ -328,7 +328,7 @@ returns-in-Owe-clause-top g c = let e = g.T.Steps.setting c.args.steps.now in le
 
 pub returns-in-Owe-clause-scratch : goal.returns-in-Owe-clause-scratch
 returns-in-Owe-clause-scratch g c = let e = g.T.Steps.setting c.args.steps.now in let v = g.T.Steps.view c.args.steps.now in let p = c.args.terms.now.plan.now in let t = g.G.TaskGraph.graph c.args.terms.now.graph.now in let h = c.args.hand.now in
-    bare_scratch e t c.args.scratch.now (scratch_room e t c.args.scratch.now c.args.item c.requires.scratch) c.pay.result (plain_bare c.pay.result c.pay.ensures.plain)
+    bare_scratch e t c.args.scratch.now (scratch_room e t c.args.scratch.now c.args.item.now c.requires.scratch) c.pay.result (plain_bare c.pay.result c.pay.ensures.plain)
 
 pub returns-in-Owe-clause-hints : goal.returns-in-Owe-clause-hints
 returns-in-Owe-clause-hints g c = c.pay.ensures.hints ∙ ap (λ x. item_hints x c.args.hints.now) (sym c.in-Owe.is)
@@ -377,7 +377,7 @@ returns-in-Recover-clause-top g c = let e = g.T.Steps.setting c.args.steps.now i
 
 pub returns-in-Recover-clause-scratch : goal.returns-in-Recover-clause-scratch
 returns-in-Recover-clause-scratch g c = let e = g.T.Steps.setting c.args.steps.now in let v = g.T.Steps.view c.args.steps.now in let p = c.args.terms.now.plan.now in let t = g.G.TaskGraph.graph c.args.terms.now.graph.now in let h = c.args.hand.now in
-    bare_scratch e t c.args.scratch.now (scratch_room e t c.args.scratch.now c.args.item c.requires.scratch) c.replace.result c.replace.ensures.bare
+    bare_scratch e t c.args.scratch.now (scratch_room e t c.args.scratch.now c.args.item.now c.requires.scratch) c.replace.result c.replace.ensures.bare
 
 pub returns-in-Recover-clause-hints : goal.returns-in-Recover-clause-hints
 returns-in-Recover-clause-hints g c = c.replace.ensures.hints ∙ ap (λ x. item_hints x c.args.hints.now) (sym c.in-Recover.is)
@@ -419,7 +419,7 @@ replace-requires-clause-left g c κs within = subst (λ x. is_over (g.T.Steps.se
 
 pub returns-in-Credit-clause-good : goal.returns-in-Credit-clause-good
 returns-in-Credit-clause-good g c = let e = g.T.Steps.setting c.args.steps.now in let p = c.args.terms.now.plan.now in let h = c.args.hand.now in
-    subst (λ x. FallsGood e h x (item_rest e p h c.args.item) (after_rest e p h c.give_up.result)) (sym c.in-Credit.is) tt
+    subst (λ x. FallsGood e h x (item_rest e p h c.args.item.now) (after_rest e p h c.give_up.result)) (sym c.in-Credit.is) tt
 
 pub returns-in-Credit-clause-again : goal.returns-in-Credit-clause-again
 returns-in-Credit-clause-again g c = let e = g.T.Steps.setting c.args.steps.now in let p = c.args.terms.now.plan.now in let n = (g.T.Steps.shown c.give_up.new.steps).1 in
@@ -427,31 +427,31 @@ returns-in-Credit-clause-again g c = let e = g.T.Steps.setting c.args.steps.now 
 
 pub returns-in-Explore-clause-good : goal.returns-in-Explore-clause-good
 returns-in-Explore-clause-good g c = let e = g.T.Steps.setting c.args.steps.now in let p = c.args.terms.now.plan.now in let h = c.args.hand.now in
-    subst (λ x. FallsGood e h x (item_rest e p h c.args.item) (after_rest e p c.turn.new.hand c.turn.result)) (sym c.in-Explore.is) tt
+    subst (λ x. FallsGood e h x (item_rest e p h c.args.item.now) (after_rest e p c.turn-explored.new.hand c.after.result)) (sym c.in-Explore.is) tt
 
 pub returns-in-Explore-clause-again : goal.returns-in-Explore-clause-again
-returns-in-Explore-clause-again g c = let e = g.T.Steps.setting c.args.steps.now in let p = c.args.terms.now.plan.now in let n = (g.T.Steps.shown c.turn.new.steps).1 in
-    subst (λ x. LooksAgain e.graph p n x (after_items c.turn.result)) (sym c.in-Explore.is) tt
+returns-in-Explore-clause-again g c = let e = g.T.Steps.setting c.args.steps.now in let p = c.args.terms.now.plan.now in let n = (g.T.Steps.shown c.turn-explored.new.steps).1 in
+    subst (λ x. LooksAgain e.graph p n x (after_items c.after.result)) (sym c.in-Explore.is) tt
 
 pub returns-in-Compute-clause-good : goal.returns-in-Compute-clause-good
 returns-in-Compute-clause-good g c = let e = g.T.Steps.setting c.args.steps.now in let p = c.args.terms.now.plan.now in let h = c.args.hand.now in
-    subst (λ x. FallsGood e h x (item_rest e p h x) (after_rest e p c.turn-in-Compute.new.hand c.turn-in-Compute.result)) (sym c.in-Compute.is) c.turn-in-Compute.ensures.good
+    subst (λ a. FallsGood e h c.args.item.now (item_rest e p h c.args.item.now) (after_rest e p c.turn-computed.new.hand a)) (sym c.after-in-Compute.ensures) (subst (λ x. FallsGood e h x (item_rest e p h x) (after_rest e p c.turn-computed.new.hand (computed_after c.in-Compute.compute c.args.terms.now.lives c.turn-computed.result))) (sym c.in-Compute.is) c.turn-computed.ensures.good)
 
 pub returns-in-Compute-clause-again : goal.returns-in-Compute-clause-again
-returns-in-Compute-clause-again g c = let e = g.T.Steps.setting c.args.steps.now in let p = c.args.terms.now.plan.now in let n = (g.T.Steps.shown c.turn-in-Compute.new.steps).1 in
-    subst (λ x. LooksAgain e.graph p n x (after_items c.turn-in-Compute.result)) (sym c.in-Compute.is) tt
+returns-in-Compute-clause-again g c = let e = g.T.Steps.setting c.args.steps.now in let p = c.args.terms.now.plan.now in let n = (g.T.Steps.shown c.turn-computed.new.steps).1 in
+    subst (λ x. LooksAgain e.graph p n x (after_items c.after-in-Compute.result)) (sym c.in-Compute.is) tt
 
 pub returns-in-Close-clause-good : goal.returns-in-Close-clause-good
 returns-in-Close-clause-good g c = let e = g.T.Steps.setting c.args.steps.now in let p = c.args.terms.now.plan.now in let h = c.args.hand.now in
-    subst (λ x. FallsGood e h x (item_rest e p h c.args.item) (after_rest e p c.turn-in-Close.new.hand c.turn-in-Close.result)) (sym c.in-Close.is) tt
+    subst (λ x. FallsGood e h x (item_rest e p h c.args.item.now) (after_rest e p c.turn.new.hand c.turn.result)) (sym c.in-Close.is) tt
 
 pub returns-in-Close-clause-again : goal.returns-in-Close-clause-again
-returns-in-Close-clause-again g c = let e = g.T.Steps.setting c.args.steps.now in let p = c.args.terms.now.plan.now in let n = (g.T.Steps.shown c.turn-in-Close.new.steps).1 in
-    subst (λ x. LooksAgain e.graph p n x (after_items c.turn-in-Close.result)) (sym c.in-Close.is) c.turn-in-Close.ensures.again
+returns-in-Close-clause-again g c = let e = g.T.Steps.setting c.args.steps.now in let p = c.args.terms.now.plan.now in let n = (g.T.Steps.shown c.turn.new.steps).1 in
+    subst (λ x. LooksAgain e.graph p n x (after_items c.turn.result)) (sym c.in-Close.is) c.turn.ensures.again
 
 pub returns-in-Notify-clause-good : goal.returns-in-Notify-clause-good
 returns-in-Notify-clause-good g c = let e = g.T.Steps.setting c.args.steps.now in let p = c.args.terms.now.plan.now in let h = c.args.hand.now in
-    subst (λ x. FallsGood e h x (item_rest e p h c.args.item) (after_rest e p h c.turn-in-Notify.result)) (sym c.in-Notify.is) tt
+    subst (λ x. FallsGood e h x (item_rest e p h c.args.item.now) (after_rest e p h c.turn-in-Notify.result)) (sym c.in-Notify.is) tt
 
 pub returns-in-Notify-clause-again : goal.returns-in-Notify-clause-again
 returns-in-Notify-clause-again g c = let e = g.T.Steps.setting c.args.steps.now in let p = c.args.terms.now.plan.now in let n = (g.T.Steps.shown c.turn-in-Notify.new.steps).1 in
@@ -459,7 +459,7 @@ returns-in-Notify-clause-again g c = let e = g.T.Steps.setting c.args.steps.now 
 
 pub returns-in-Look-clause-good : goal.returns-in-Look-clause-good
 returns-in-Look-clause-good g c = let e = g.T.Steps.setting c.args.steps.now in let p = c.args.terms.now.plan.now in let h = c.args.hand.now in
-    subst (λ x. FallsGood e h x (item_rest e p h c.args.item) (after_rest e p h c.turn-in-Look.result)) (sym c.in-Look.is) tt
+    subst (λ x. FallsGood e h x (item_rest e p h c.args.item.now) (after_rest e p h c.turn-in-Look.result)) (sym c.in-Look.is) tt
 
 pub returns-in-Look-clause-again : goal.returns-in-Look-clause-again
 returns-in-Look-clause-again g c = let e = g.T.Steps.setting c.args.steps.now in let p = c.args.terms.now.plan.now in let n = (g.T.Steps.shown c.turn-in-Look.new.steps).1 in
@@ -467,7 +467,7 @@ returns-in-Look-clause-again g c = let e = g.T.Steps.setting c.args.steps.now in
 
 pub returns-in-Owe-clause-good : goal.returns-in-Owe-clause-good
 returns-in-Owe-clause-good g c = let e = g.T.Steps.setting c.args.steps.now in let p = c.args.terms.now.plan.now in let h = c.args.hand.now in
-    subst (λ x. FallsGood e h x (item_rest e p h c.args.item) (after_rest e p h c.pay.result)) (sym c.in-Owe.is) tt
+    subst (λ x. FallsGood e h x (item_rest e p h c.args.item.now) (after_rest e p h c.pay.result)) (sym c.in-Owe.is) tt
 
 pub returns-in-Owe-clause-again : goal.returns-in-Owe-clause-again
 returns-in-Owe-clause-again g c = let e = g.T.Steps.setting c.args.steps.now in let p = c.args.terms.now.plan.now in let n = (g.T.Steps.shown c.pay.new.steps).1 in
@@ -475,7 +475,7 @@ returns-in-Owe-clause-again g c = let e = g.T.Steps.setting c.args.steps.now in 
 
 pub returns-in-Recover-clause-good : goal.returns-in-Recover-clause-good
 returns-in-Recover-clause-good g c = let e = g.T.Steps.setting c.args.steps.now in let p = c.args.terms.now.plan.now in let h = c.args.hand.now in
-    subst (λ x. FallsGood e h x (item_rest e p h c.args.item) (after_rest e p h c.replace.result)) (sym c.in-Recover.is) tt
+    subst (λ x. FallsGood e h x (item_rest e p h c.args.item.now) (after_rest e p h c.replace.result)) (sym c.in-Recover.is) tt
 
 pub returns-in-Recover-clause-again : goal.returns-in-Recover-clause-again
 returns-in-Recover-clause-again g c = let e = g.T.Steps.setting c.args.steps.now in let p = c.args.terms.now.plan.now in let n = (g.T.Steps.shown c.replace.new.steps).1 in

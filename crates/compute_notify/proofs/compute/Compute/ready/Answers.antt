@@ -1,5 +1,6 @@
 use Rattle.std.proofs.Common.{◌≡◌, refl, ◌∙◌, subst, sym}
 use Rattle.core_state.specs.Asked.{IsCoreKey, IsGraphOf}
+use Rattle.compute_notify.specs.Items.{computed_after}
 use Rattle.compute_notify.specs.Striking.{strike_left}
 use Rattle.compute_notify.specs.declared.item.Item.TheVariants as item
 use Rattle.compute_notify.proofs.Coming.{falls_as}
@@ -33,7 +34,7 @@ returns-in-None-clause-top g c =
     let asked = subst (λ h. IsGraphOf (g.G.TaskGraph.graph h) runs.serves.outcome e.graph) (sym c.of.ensures) runs.serves.graph in
     let many : c.notify_words-words.result ≡ e.graph.notify_words c.args.self.duty.key.0 = c.notify_words-words.ensures runs.serves.outcome e.graph asked in
     let sought : strike_left e.graph c.args.terms.now.plan.now (item.Compute c.args.self) ≡ c.next_strike.result = sought_is e.graph c.args.terms.now.plan.now c.args.self c.args.made c.notify_words-words.result c.next_strike.result c.requires.phase many c.next_strike.ensures in
-    free_after e (g.T.Steps.view c.load.new.steps) c.load.ensures.hand c.args.hand.now c.load.result (free_ready (g.G.TaskGraph.graph c.args.terms.now.graph.now) e (g.T.Steps.view c.args.steps.now) c.args.self c.args.made c.args.terms.now.plan.now c.args.terms.now.lives runs c.requires.stands c.requires.phase (sought ∙ c.in-None.is) c.args.hand.now c.requires.top).1
+    free_after e (g.T.Steps.view c.load.new.steps) c.load.ensures.hand c.args.hand.now (computed_after c.args.self c.args.terms.now.lives c.load.result) (free_ready (g.G.TaskGraph.graph c.args.terms.now.graph.now) e (g.T.Steps.view c.args.steps.now) c.args.self c.args.made c.args.terms.now.plan.now c.args.terms.now.lives runs c.requires.stands c.requires.phase (sought ∙ c.in-None.is) c.args.hand.now c.requires.top).1
 
 pub returns-in-None-clause-rest : goal.returns-in-None-clause-rest
 returns-in-None-clause-rest g c =
@@ -42,4 +43,4 @@ returns-in-None-clause-rest g c =
     let many : c.notify_words-words.result ≡ e.graph.notify_words c.args.self.duty.key.0 = c.notify_words-words.ensures runs.serves.outcome e.graph asked in
     let sought : strike_left e.graph c.args.terms.now.plan.now (item.Compute c.args.self) ≡ c.next_strike.result = sought_is e.graph c.args.terms.now.plan.now c.args.self c.args.made c.notify_words-words.result c.next_strike.result c.requires.phase many c.next_strike.ensures in
     loaded_falls (g.G.TaskGraph.graph c.args.terms.now.graph.now) e (g.T.Steps.view c.args.steps.now) c.args.self c.args.made c.args.terms.now.plan.now c.args.terms.now.lives runs c.requires.stands c.requires.phase (sought ∙ c.in-None.is) c.args.hand.now c.requires.top
-    (g.T.Steps.shown c.load.new.steps).1 c.args.hand.now c.load.result refl c.load.ensures.rest
+    (g.T.Steps.shown c.load.new.steps).1 c.args.hand.now (computed_after c.args.self c.args.terms.now.lives c.load.result) refl c.load.ensures.rest

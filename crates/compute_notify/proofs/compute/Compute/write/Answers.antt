@@ -1,9 +1,5 @@
-use Rattle.std.proofs.Common.{◌≡◌, ◌≤◌, Some, ap, refl, sym, ◌∙◌, subst}
+use Rattle.std.proofs.Common.{◌≡◌, ◌≤◌, refl, sym, ◌∙◌, subst}
 use Rattle.core_state.specs.Asked.{IsCoreKey, IsGraphOf}
-use Rattle.compute_notify.specs.declared.item.Came.TheVariants as came
-use Rattle.compute_notify.specs.declared.item.Item.TheVariants as item
-use Rattle.compute_notify.specs.Items.{is_spent}
-use Rattle.compute_notify.specs.declared.item.After.{After}
 use Rattle.compute_notify.proofs.Computing.Lines.{free_here, took_hand}
 use Rattle.compute_notify.proofs.Computing.Writes.{give_step, may_take, next_written, take_falls, take_goes, took_top}
 use Rattle.compute_notify.proofs.compute.Compute.write.Goals as goal
@@ -20,14 +16,14 @@ take_turn-requires-clause-can g c =
     (subst (λ h. c.block-place.result.block ≤ (g.G.TaskGraph.graph h).block_count) c.of-graph.ensures c.block-place.ensures.inside) (free_here e _ _ c.args.hand.now (sym c.take.ensures.value ∙ c.in_default.is) c.requires.top)
 
 pub returns-in_default-clause-goes : goal.returns-in_default-clause-goes
-returns-in_default-clause-goes g c = take_goes _ _ _ c.args.self _ _ c.requires.runs c.requires.stands _ _ _ c.take_turn.result c.on.result c.take_turn.ensures.step.view_is c.on.ensures
+returns-in_default-clause-goes g c = take_goes _ _ _ c.args.self _ _ c.requires.runs c.requires.stands _ _ _ c.take_turn.result _ c.take_turn.ensures.step.view_is refl
 
 pub returns-in_default-clause-top : goal.returns-in_default-clause-top
 returns-in_default-clause-top g c =
     let serves = c.requires.runs.serves in let e = g.T.Steps.setting c.args.steps.now in
     let asked = subst (λ h. IsGraphOf (g.G.TaskGraph.graph h) serves.outcome e.graph) (sym c.of-graph.ensures) serves.graph in
     let here : c.block-place.result.block ≡ e.graph.block c.args.self.duty.key.0 = c.block-place.ensures.block serves.outcome e.graph asked in
-    took_top _ e _ c.args.self _ _ c.requires.runs c.requires.stands _ c.block-place.result.block c.take_turn.result c.on.result c.on.ensures here
+    took_top _ e _ c.args.self _ _ c.requires.runs c.requires.stands _ c.block-place.result.block c.take_turn.result _ refl here
     (took_hand e _ _ (g.T.Steps.shown c.take_turn.new.self).1 c.block-place.result.block c.take_turn.result c.take_turn.ensures.step.view_is c.take_turn.ensures.tells c.take_turn.ensures.cells c.take_turn.ensures.value (free_here e _ _ c.args.hand.now (sym c.take.ensures.value ∙ c.in_default.is) c.requires.top))
 
 pub returns-in_default-clause-rest : goal.returns-in_default-clause-rest
@@ -35,7 +31,7 @@ returns-in_default-clause-rest g c =
     let serves = c.requires.runs.serves in let e = g.T.Steps.setting c.args.steps.now in
     let asked = subst (λ h. IsGraphOf (g.G.TaskGraph.graph h) serves.outcome e.graph) (sym c.of-graph.ensures) serves.graph in
     let here : c.block-place.result.block ≡ e.graph.block c.args.self.duty.key.0 = c.block-place.ensures.block serves.outcome e.graph asked in
-    take_falls e _ c.args.self _ c.block-place.result.block c.args.hand.now c.take_turn.result c.on.result (sym c.take.ensures.value ∙ c.in_default.is) here c.on.ensures c.take_turn.ensures.tells
+    take_falls e _ c.args.self _ c.block-place.result.block c.args.hand.now c.take_turn.result _ (sym c.take.ensures.value ∙ c.in_default.is) here refl c.take_turn.ensures.tells
 
 pub end_write-requires-clause-writes : goal.end_write-requires-clause-writes
 end_write-requires-clause-writes g c =
@@ -45,11 +41,11 @@ end_write-requires-clause-writes g c =
     next_written _ e _ c.args.self _ _ c.requires.runs c.requires.stands c.block-place.result.block c.block-place.result.version here (c.block-place.ensures.version serves.outcome e.graph asked)
 
 pub returns-clause-goes : goal.returns-clause-goes
-returns-clause-goes g c = give_step _ (g.T.Steps.setting c.args.steps.now) _ c.args.self _ _ c.requires.runs c.requires.stands c.end_write.ensures.step refl refl c.stays.result
-    (c.stays.ensures ∙ ap (λ x. record { left = Some (item.Close x); came = came.Nothing }) c.of.ensures)
+returns-clause-goes g c = give_step _ (g.T.Steps.setting c.args.steps.now) _ c.args.self _ _ c.requires.runs c.requires.stands c.end_write.ensures.step refl refl _
+    refl
 
 pub returns-in_default-clause-spent : goal.returns-in_default-clause-spent
-returns-in_default-clause-spent g c = ap (λ (a : After). is_spent a.came) c.on.ensures
+returns-in_default-clause-spent g c = refl
 
 pub returns-clause-spent : goal.returns-clause-spent
-returns-clause-spent g c = ap (λ (a : After). is_spent a.came) c.stays.ensures
+returns-clause-spent g c = refl

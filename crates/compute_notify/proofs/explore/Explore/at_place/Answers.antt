@@ -1,4 +1,4 @@
-use Rattle.std.proofs.Common.{ℕ, Some, ap, refl, subst, sym, ◌∙◌, false, ◌≡◌}
+use Rattle.std.proofs.Common.{ℕ, ap, refl, subst, sym, ◌∙◌, false, ◌≡◌}
 use Rattle.core_state.specs.Asked.{IsCoreKey, IsGraphOf}
 use Rattle.core_state.specs.Counts.{known_key}
 use Rattle.core_state.specs.Effects.{told_of}
@@ -8,16 +8,12 @@ use Rattle.core_state.proofs.Lines.Outcomes.{leaves}
 use Rattle.recovery.proofs.Knowing.{known_is, remembers_apart}
 use Rattle.recovery.proofs.Phases.{credits_kept}
 use Rattle.compute_notify.specs.Eventing.{explore_event}
-use Rattle.compute_notify.specs.declared.item.Came.{Came}
-use Rattle.compute_notify.specs.declared.item.Item.{Item}
-use Rattle.compute_notify.specs.declared.item.Item.TheVariants as item
 use Rattle.core_state.proofs.Lines.Remembers.{names_row}
-use Rattle.compute_notify.specs.Rooms.{bare_item, plain_came}
-use Rattle.compute_notify.proofs.Plain.{plain_over, told_plain}
+use Rattle.compute_notify.proofs.Plain.{told_plain}
 use Rattle.compute_notify.proofs.BelowStrikes.{same_knows, stepped_knows}
 use Rattle.compute_notify.proofs.Coming.{falls_as}
 use Rattle.compute_notify.proofs.ExploreRests.{falls_spent}
-use Rattle.compute_notify.proofs.Exploring.{goes_spent, may_spend, next_of, start_event}
+use Rattle.compute_notify.proofs.Exploring.{goes_spent, may_spend, start_event}
 use Rattle.compute_notify.proofs.Running.{limit_is}
 use Rattle.compute_notify.proofs.Stepped.{stepped_as}
 use Rattle.compute_notify.proofs.explore.Explore.at_place.Goals as goal
@@ -49,17 +45,17 @@ pub returns-in-Spend-clause-goes : goal.returns-in-Spend-clause-goes
 returns-in-Spend-clause-goes g c = let serves = c.requires.runs.serves in let e = g.T.Steps.setting c.args.steps.now in let v = g.T.Steps.view c.args.steps.now in let x = c.args.self in let told = c.spend-told in let w = g.T.Steps.view told.new.self in
     let m : ℕ = (g.T.Steps.shown told.new.self).1 in let step = told.ensures.step.view_is in
     goes_spent _ e v x c.requires.stands.fits w (remembers_apart e (spend x.duty.row (known_key x.duty.row v) x.place) m v w refl step) (leaves e (spend x.duty.row (known_key x.duty.row v) x.place) m v w step).strikes_are
-    (credits_kept e (spend x.duty.row (known_key x.duty.row v) x.place) m 0 v w step refl c.requires.stands.credits) c.requires.place m c.args.terms.now.lives told.result c.over.result
+    (credits_kept e (spend x.duty.row (known_key x.duty.row v) x.place) m 0 v w step refl c.requires.stands.credits) c.requires.place m c.args.terms.now.lives told.result _
     (told.ensures.told ∙ ap (λ z. told_of z x.place m) (c.pred_count.ensures serves.outcome e.graph (subst (λ h. IsGraphOf (g.G.TaskGraph.graph h) serves.outcome e.graph) (sym c.of-graph.ensures) serves.graph)))
-    step (limit_is _ _ _ e c.requires.runs) (c.over.ensures ∙ ap (λ (y : Item). record { left = Some y; came = c.told.result }) c.next_place.ensures ∙ ap (λ (z : Came). record { left = Some (item.Explore (next_of x)); came = z }) c.told.ensures)
+    step (limit_is _ _ _ e c.requires.runs) refl
 
 pub returns-in-Spend-clause-rest : goal.returns-in-Spend-clause-rest
 returns-in-Spend-clause-rest g c = let serves = c.requires.runs.serves in let e = g.T.Steps.setting c.args.steps.now in let v = g.T.Steps.view c.args.steps.now in let x = c.args.self in let told = c.spend-told in
     let m : ℕ = (g.T.Steps.shown told.new.self).1 in
     falls_as e _ _ _ _ (ap (explore_event e v x) (sym c.in-Spend.is))
-    (falls_spent e c.args.terms.now.plan.now x c.requires.place v m c.args.terms.now.lives told.result c.over.result c.in-Spend.is
+    (falls_spent e c.args.terms.now.plan.now x c.requires.place v m c.args.terms.now.lives told.result _ c.in-Spend.is
     (told.ensures.told ∙ ap (λ z. told_of z x.place m) (c.pred_count.ensures serves.outcome e.graph (subst (λ h. IsGraphOf (g.G.TaskGraph.graph h) serves.outcome e.graph) (sym c.of-graph.ensures) serves.graph)))
-    (known_is e v x.duty.row x.duty.key.0 c.requires.stands.fits.duty.known) (c.over.ensures ∙ ap (λ (y : Item). record { left = Some y; came = c.told.result }) c.next_place.ensures ∙ ap (λ (z : Came). record { left = Some (item.Explore (next_of x)); came = z }) c.told.ensures))
+    (known_is e v x.duty.row x.duty.key.0 c.requires.stands.fits.duty.known) refl)
 
 pub pred_count-requires-after_bounds : goal.pred_count-requires-after_bounds
 pred_count-requires-after_bounds g c κs within = subst (λ h. IsCoreKey (g.G.TaskGraph.graph h) c.args.self.duty.key.0) (sym c.of-graph.ensures) c.requires.stands.fits.duty.is_key
@@ -73,5 +69,4 @@ returns-in-Spend-clause-knows g c = let e = g.T.Steps.setting c.args.steps.now i
     remembers_apart e (spend x.duty.row (known_key x.duty.row v) x.place) (g.T.Steps.shown c.spend-told.new.self).1 v (g.T.Steps.view c.spend-told.new.self) refl c.spend-told.ensures.step.view_is
 
 pub returns-in-Spend-clause-plain : goal.returns-in-Spend-clause-plain
-returns-in-Spend-clause-plain g c = plain_over c.next_place.result c.told.result c.over.result c.over.ensures (ap bare_item c.next_place.ensures)
-    (ap plain_came c.told.ensures ∙ told_plain c.spend-told.result c.args.self.duty.row c.args.self.duty.key c.args.terms.now.lives)
+returns-in-Spend-clause-plain g c = told_plain c.spend-told.result c.args.self.duty.row c.args.self.duty.key c.args.terms.now.lives

@@ -8,11 +8,6 @@ use Rattle.key_table.specs.declared.search.Sought.TheVariants as sought
 use Rattle.recovery.proofs.Knowing.{remembers}
 use Rattle.recovery.proofs.Phases.{credits_kept}
 use Rattle.recovery.proofs.Seeking.{spends}
-use Rattle.compute_notify.specs.declared.item.Came.TheVariants as came
-use Rattle.compute_notify.specs.declared.item.Item.{Item}
-use Rattle.compute_notify.specs.declared.item.Item.TheVariants as item
-use Rattle.compute_notify.specs.Rooms.{bare_item}
-use Rattle.compute_notify.proofs.Plain.{plain_over}
 use Rattle.compute_notify.proofs.Claims.{claim_is, claim_right, claim_step}
 use Rattle.compute_notify.proofs.Exploring.{claims_at, explores, goes_found, goes_made, goes_on}
 use Rattle.compute_notify.proofs.Stepped.{steps_once}
@@ -29,7 +24,7 @@ returns-in-Going-clause-goes g c = let s = c.args.search in let t = c.in-Going.e
     let stays : (k : ℕ) → known_of v (next_row s) ≡ Some k → m ≡ k + 1 = λ k is. t.stays k (g.met.T.Steps.known_is c.args.steps.now _ ∙ is) in
     goes_on _ e v c.args.self c.requires.stands.fits w (remembers e _ _ v w (claim_right s claims step stays) (claim_step s claims step).view_is) (leaves e (claim (next_row s) s.key) m v w (claim_is s claims step)).strikes_are
     (credits_kept e (claim (next_row s) s.key) m 0 v w (claim_is s claims step) refl c.requires.stands.credits) c.requires.place m s (claims_at _ e v c.args.self c.args.edge s c.requires.edge c.requires.search) (g.T.KeyWords.known c.turn.new.words) (λ r. g.met.T.Steps.known_is c.turn.new.words r) (claim_is s claims step)
-    c.turn.new.self c.stays.result t.search t.tells (c.stays.ensures ∙ ap (λ (y : Item). record { left = Some y; came = came.Nothing }) c.on.ensures)
+    c.turn.new.self _ t.search t.tells refl
 
 pub returns-in-At-default-true-clause-goes : goal.returns-in-At-default-true-clause-goes
 returns-in-At-default-true-clause-goes g c = let s = c.args.search in let a = c.in-At-default-true in let t = a.ensures in let e = g.T.Steps.setting c.args.steps.now in let v = g.T.Steps.view c.args.steps.now in let w = g.T.Steps.view c.turn.new.words in let m : ℕ = (g.T.KeyWords.last c.turn.new.words).1 in
@@ -37,7 +32,7 @@ returns-in-At-default-true-clause-goes g c = let s = c.args.search in let a = c.
     let stays : (k : ℕ) → known_of v (next_row s) ≡ Some k → m ≡ k + 1 = λ k is. t.stays k (g.met.T.Steps.known_is c.args.steps.now _ ∙ is) in
     goes_made _ e v c.args.self c.requires.stands.fits w (remembers e _ _ v w (claim_right s claims step stays) (claim_step s claims step).view_is) (leaves e (claim (next_row s) s.key) m v w (claim_is s claims step)).strikes_are
     (credits_kept e (claim (next_row s) s.key) m 0 v w (claim_is s claims step) refl c.requires.stands.credits) c.requires.place m s (claims_at _ e v c.args.self c.args.edge s c.requires.edge c.requires.search) (g.T.KeyWords.known c.turn.new.words) (λ r. g.met.T.Steps.known_is c.turn.new.words r) (claim_is s claims step)
-    a.row a.made c.args.edge c.new-owe.result c.over.result a.made-test t.tells c.requires.edge c.new-owe.ensures (c.over.ensures ∙ ap (λ (y : Item). record { left = Some y; came = came.Above (item.Owe c.new-owe.result) }) c.on-in-At-default-true.ensures)
+    a.row a.made c.args.edge _ _ a.made-test t.tells c.requires.edge refl refl
 
 pub returns-in-At-default-false-clause-goes : goal.returns-in-At-default-false-clause-goes
 returns-in-At-default-false-clause-goes g c = let s = c.args.search in let a = c.in-At-default-false in let t = a.ensures in let e = g.T.Steps.setting c.args.steps.now in let v = g.T.Steps.view c.args.steps.now in let w = g.T.Steps.view c.turn.new.words in let m : ℕ = (g.T.KeyWords.last c.turn.new.words).1 in
@@ -45,7 +40,7 @@ returns-in-At-default-false-clause-goes g c = let s = c.args.search in let a = c
     let stays : (k : ℕ) → known_of v (next_row s) ≡ Some k → m ≡ k + 1 = λ k is. t.stays k (g.met.T.Steps.known_is c.args.steps.now _ ∙ is) in
     goes_found _ e v c.args.self c.requires.stands.fits w (remembers e _ _ v w (claim_right s claims step stays) (claim_step s claims step).view_is) (leaves e (claim (next_row s) s.key) m v w (claim_is s claims step)).strikes_are
     (credits_kept e (claim (next_row s) s.key) m 0 v w (claim_is s claims step) refl c.requires.stands.credits) c.requires.place m s (claims_at _ e v c.args.self c.args.edge s c.requires.edge c.requires.search) (g.T.KeyWords.known c.turn.new.words) (λ r. g.met.T.Steps.known_is c.turn.new.words r) (claim_is s claims step)
-    a.row a.made c.stays-in-At-default-false.result a.made-test t.tells (c.stays-in-At-default-false.ensures ∙ ap (λ (y : Item). record { left = Some y; came = came.Nothing }) c.on-in-At-default-false.ensures)
+    a.row a.made _ a.made-test t.tells refl
 
 pub returns-in-Going-clause-step : goal.returns-in-Going-clause-step
 returns-in-Going-clause-step g c = let s = c.args.search in let t = c.in-Going.ensures in let step = g.met.T.Steps.key_step c.args.steps.now c.turn.new.words _ _ t.did in
@@ -75,10 +70,10 @@ returns-in-At-default-false-clause-knows g c = let s = c.args.search in let t = 
     remembers e _ _ v w (claim_right s claims step (λ k is. t.stays k (g.met.T.Steps.known_is c.args.steps.now _ ∙ is))) (claim_step s claims step).view_is
 
 pub returns-in-Going-clause-plain : goal.returns-in-Going-clause-plain
-returns-in-Going-clause-plain g c = plain_over c.on.result came.Nothing c.stays.result c.stays.ensures (ap bare_item c.on.ensures) refl
+returns-in-Going-clause-plain g c = refl
 
 pub returns-in-At-default-true-clause-plain : goal.returns-in-At-default-true-clause-plain
-returns-in-At-default-true-clause-plain g c = plain_over c.on-in-At-default-true.result (came.Above (item.Owe c.new-owe.result)) c.over.result c.over.ensures (ap bare_item c.on-in-At-default-true.ensures) refl
+returns-in-At-default-true-clause-plain g c = refl
 
 pub returns-in-At-default-false-clause-plain : goal.returns-in-At-default-false-clause-plain
-returns-in-At-default-false-clause-plain g c = plain_over c.on-in-At-default-false.result came.Nothing c.stays-in-At-default-false.result c.stays-in-At-default-false.ensures (ap bare_item c.on-in-At-default-false.ensures) refl
+returns-in-At-default-false-clause-plain g c = refl

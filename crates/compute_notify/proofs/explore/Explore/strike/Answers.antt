@@ -1,5 +1,4 @@
-use Rattle.std.proofs.Common.{◌≡◌, ◌∙◌, cond, ap, sym}
-use Rattle.compute_notify.specs.Rooms.{is_plain}
+use Rattle.std.proofs.Common.{refl, ◌≡◌, ◌∙◌, cond, ap, sym}
 use Rattle.compute_notify.proofs.Striking.Making.{stepped_view, strikes_task}
 use Rattle.compute_notify.proofs.Striking.Turns.{explore_asks, explore_falls, explore_goes}
 use Rattle.compute_notify.proofs.explore.Explore.strike.Goals as goal
@@ -19,14 +18,14 @@ make_strike-requires-clause-task g c κs within =
 pub returns-clause-goes : goal.returns-clause-goes
 returns-clause-goes g c =
     let made : c.if-make_strike.made ≡ cond c.make_strike.result c.args.next.made c.args.self.made = elim c.if-make_strike.branch [ then-make_strike w ↦ w.made-is ∙ sym (ap (λ b. cond b c.args.next.made c.args.self.made) w.if-make_strike.true) | else-make_strike w ↦ w.made-is ∙ sym (ap (λ b. cond b c.args.next.made c.args.self.made) w.if-make_strike.false) ] in
-    rw (c.stays.ensures, made) (explore_goes (g.G.TaskGraph.graph c.args.terms.now.graph.now) c.args.terms.now.plan.now c.args.terms.now.lives (g.T.Steps.setting c.args.steps.now) (g.T.Steps.view c.args.steps.now) c.requires.runs c.args.next c.args.self c.requires.stands c.requires.next
+    rw made (explore_goes (g.G.TaskGraph.graph c.args.terms.now.graph.now) c.args.terms.now.plan.now c.args.terms.now.lives (g.T.Steps.setting c.args.steps.now) (g.T.Steps.view c.args.steps.now) c.requires.runs c.args.next c.args.self c.requires.stands c.requires.next
     (g.T.Steps.view c.make_strike.new.steps) c.args.hand.now c.make_strike.new.hand (g.T.Steps.shown c.make_strike.new.steps).1 c.make_strike.result c.make_strike.ensures.struck (stepped_view _ c.make_strike.ensures.step))
 
 pub returns-clause-rest : goal.returns-clause-rest
 returns-clause-rest g c =
     let made : c.if-make_strike.made ≡ cond c.make_strike.result c.args.next.made c.args.self.made = elim c.if-make_strike.branch [ then-make_strike w ↦ w.made-is ∙ sym (ap (λ b. cond b c.args.next.made c.args.self.made) w.if-make_strike.true) | else-make_strike w ↦ w.made-is ∙ sym (ap (λ b. cond b c.args.next.made c.args.self.made) w.if-make_strike.false) ] in
-    rw (c.stays.ensures, made) (explore_falls (g.G.TaskGraph.graph c.args.terms.now.graph.now) c.args.terms.now.plan.now c.args.terms.now.lives (g.T.Steps.setting c.args.steps.now) (g.T.Steps.view c.args.steps.now) c.requires.runs c.args.next c.args.self c.requires.stands c.requires.next
+    rw made (explore_falls (g.G.TaskGraph.graph c.args.terms.now.graph.now) c.args.terms.now.plan.now c.args.terms.now.lives (g.T.Steps.setting c.args.steps.now) (g.T.Steps.view c.args.steps.now) c.requires.runs c.args.next c.args.self c.requires.stands c.requires.next
     (g.T.Steps.view c.make_strike.new.steps) c.args.hand.now c.make_strike.new.hand (g.T.Steps.shown c.make_strike.new.steps).1 c.make_strike.result c.make_strike.ensures.struck)
 
 pub returns-clause-plain : goal.returns-clause-plain
-returns-clause-plain g c = ap is_plain c.stays.ensures
+returns-clause-plain g c = refl

@@ -1,5 +1,6 @@
 use Rattle.std.proofs.Common.{◌≡◌, ◌<◌, ◌≤◌, None, arith, subst, sym, ◌∙◌, refl}
 use Rattle.core_state.specs.Asked.{IsCoreKey, IsGraphOf}
+use Rattle.compute_notify.specs.Items.{explored_after}
 use Rattle.compute_notify.specs.Striking.{explore_left}
 use Rattle.compute_notify.proofs.BelowStrikes.{same_knows, stepped_knows, struck_row}
 use Rattle.compute_notify.proofs.Coming.{falls_as}
@@ -41,7 +42,7 @@ pub returns-then-self-pred_count-clause-top : goal.returns-then-self-pred_count-
 returns-then-self-pred_count-clause-top g c = let serves = c.requires.runs.serves in let e = g.T.Steps.setting c.args.steps.now in let x = c.args.self in
     let places : c.pred_count.result ≡ e.graph.places x.duty.key.0 = c.pred_count.ensures serves.outcome e.graph (subst (λ h. IsGraphOf (g.G.TaskGraph.graph h) serves.outcome e.graph) (sym c.of-graph.ensures) serves.graph) in
     let low : x.place < e.graph.places x.duty.key.0 = subst (λ m. x.place < m) places c.if-self-pred_count.true in
-    after_free e (g.T.Steps.view c.at_place.new.steps) c.at_place.ensures.hand c.args.hand.now c.at_place.result
+    after_free e (g.T.Steps.view c.at_place.new.steps) c.at_place.ensures.hand c.args.hand.now (explored_after c.args.self c.args.terms.now.lives c.at_place.result)
     (place_free _ e (g.T.Steps.view c.args.steps.now) x c.requires.stands.fits c.requires.stands.top _ _ c.requires.runs c.args.hand.now low c.requires.top).1
 
 pub returns-then-self-pred_count-clause-step : goal.returns-then-self-pred_count-clause-step
@@ -54,7 +55,7 @@ pub returns-then-self-pred_count-clause-rest : goal.returns-then-self-pred_count
 returns-then-self-pred_count-clause-rest g c = let serves = c.requires.runs.serves in let e = g.T.Steps.setting c.args.steps.now in let v = g.T.Steps.view c.args.steps.now in let x = c.args.self in
     let places : c.pred_count.result ≡ e.graph.places x.duty.key.0 = c.pred_count.ensures serves.outcome e.graph (subst (λ h. IsGraphOf (g.G.TaskGraph.graph h) serves.outcome e.graph) (sym c.of-graph.ensures) serves.graph) in
     let low : x.place < e.graph.places x.duty.key.0 = subst (λ m. x.place < m) places c.if-self-pred_count.true in
-    falls_free e v c.args.terms.now.plan.now x (g.T.Steps.shown c.at_place.new.steps).1 _ c.at_place.result c.args.hand.now
+    falls_free e v c.args.terms.now.plan.now x (g.T.Steps.shown c.at_place.new.steps).1 _ (explored_after c.args.self c.args.terms.now.lives c.at_place.result) c.args.hand.now
     (place_free _ e v x c.requires.stands.fits c.requires.stands.top _ _ c.requires.runs c.args.hand.now low c.requires.top).1
     (place_event e v c.args.terms.now.plan.now x c.args.hand.now c.args.hand.now low) c.at_place.ensures.rest
 
@@ -74,7 +75,7 @@ pub returns-in-None-clause-top : goal.returns-in-None-clause-top
 returns-in-None-clause-top g c = let serves = c.requires.runs.serves in let e = g.T.Steps.setting c.args.steps.now in let x = c.args.self in let asked = subst (λ h. IsGraphOf (g.G.TaskGraph.graph h) serves.outcome e.graph) (sym c.of-graph.ensures) serves.graph in
     let past : e.graph.places x.duty.key.0 ≤ x.place = (let a = c.pred_count.ensures serves.outcome e.graph asked in let b = c.if-self-pred_count.false in omega (arith, a, b)) in
     let none_left : explore_left e.graph c.args.terms.now.plan.now x ≡ None = left_is e (g.T.Steps.view c.args.steps.now) c.args.terms.now.plan.now x c.next_strike.result c.notify_words-words.result past (c.notify_words-words.ensures serves.outcome e.graph asked) c.next_strike.ensures ∙ c.in-None.is in
-    after_free e (g.T.Steps.view c.spend_self.new.steps) c.spend_self.ensures.hand c.args.hand.now c.spend_self.result
+    after_free e (g.T.Steps.view c.spend_self.new.steps) c.spend_self.ensures.hand c.args.hand.now (explored_after c.args.self c.args.terms.now.lives c.spend_self.result)
     (ended_free _ e (g.T.Steps.view c.args.steps.now) x c.requires.stands.fits c.requires.stands.top _ _ c.requires.runs c.args.hand.now past none_left c.requires.top).1
 
 pub returns-in-None-clause-step : goal.returns-in-None-clause-step
@@ -87,7 +88,7 @@ pub returns-in-None-clause-rest : goal.returns-in-None-clause-rest
 returns-in-None-clause-rest g c = let serves = c.requires.runs.serves in let e = g.T.Steps.setting c.args.steps.now in let v = g.T.Steps.view c.args.steps.now in let x = c.args.self in let asked = subst (λ h. IsGraphOf (g.G.TaskGraph.graph h) serves.outcome e.graph) (sym c.of-graph.ensures) serves.graph in
     let past : e.graph.places x.duty.key.0 ≤ x.place = (let a = c.pred_count.ensures serves.outcome e.graph asked in let b = c.if-self-pred_count.false in omega (arith, a, b)) in
     let none_left : explore_left e.graph c.args.terms.now.plan.now x ≡ None = left_is e v c.args.terms.now.plan.now x c.next_strike.result c.notify_words-words.result past (c.notify_words-words.ensures serves.outcome e.graph asked) c.next_strike.ensures ∙ c.in-None.is in
-    falls_free e v c.args.terms.now.plan.now x (g.T.Steps.shown c.spend_self.new.steps).1 _ c.spend_self.result c.args.hand.now
+    falls_free e v c.args.terms.now.plan.now x (g.T.Steps.shown c.spend_self.new.steps).1 _ (explored_after c.args.self c.args.terms.now.lives c.spend_self.result) c.args.hand.now
     (ended_free _ e v x c.requires.stands.fits c.requires.stands.top _ _ c.requires.runs c.args.hand.now past none_left c.requires.top).1
     (ended_event e v c.args.terms.now.plan.now x c.args.hand.now c.args.hand.now past none_left) c.spend_self.ensures.rest
 
