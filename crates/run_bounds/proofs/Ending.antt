@@ -11,7 +11,7 @@ use Rattle.core_state.specs.Words.{Spot, pending, posted}
 use Rattle.core_state.specs.Work.{posted_count}
 use Rattle.core_state.specs.declared.job.Job.TheVariants as job
 use Rattle.core_state.specs.declared.views.View.{View}
-use Rattle.run_bounds.specs.Budgets.{IsCalmRun, all_places, begun_cost, enough_turns}
+use Rattle.run_bounds.specs.Budgets.{IsCalmRun, IsRunOf, all_places, begun_cost, enough_turns}
 use Rattle.run_bounds.specs.Calm.{IsCalm}
 use Rattle.run_bounds.specs.Hinting.{HasHints}
 use Rattle.run_bounds.specs.Ledger.{Doing, Ledger}
@@ -21,11 +21,11 @@ use Rattle.run_bounds.proofs.Edges.{ports_below_places}
 use Rattle.run_bounds.proofs.Keys.{each_in, is_core_key, key_of_place, keys_many, keys_once, places_are, rows_are}
 
 -- no hint, no job
-unhinted : (x c : ℕ) → HasHints 0 0 x c → (x ≡ 0) × (c ≡ 0)
+pub unhinted : (x c : ℕ) → HasHints 0 0 x c → (x ≡ 0) × (c ≡ 0)
 unhinted x c has = let none = has.for_exploring in let few = has.enough in
     let first : x ≡ 0 = dite (ℕ_discrete x 0) (λ z. z) (λ ne. absurd (let a = none (omega (arith, ne)) in omega (arith, a))) in (first, omega (arith, few))
 
-none_posted : (word : Spot → ℕ) (n : ℕ) → ((r : ℕ) → r < n → (word (posted job.Explore r) ≡ 0) × (word (posted job.Compute r) ≡ 0)) → posted_count word n ≡ 0
+pub none_posted : (word : Spot → ℕ) (n : ℕ) → ((r : ℕ) → r < n → (word (posted job.Explore r) ≡ 0) × (word (posted job.Compute r) ≡ 0)) → posted_count word n ≡ 0
 none_posted word zero all = refl
 none_posted word (suc n) all = let h = none_posted word n (λ r low. all r (omega (arith, low))) in let a = (all n (omega arith)).0 in let b = (all n (omega arith)).1 in omega (arith, h, a, b)
 
@@ -43,13 +43,17 @@ bounded r t p m cost looks turns rows costs few words paid =
     let d : 200 * (t + 1) * (p + t + 2) ≡ 200 * ((t + 1) * q) = omega arith in
     omega (arith, a, b, c, d, costs, words, paid)
 
+-- a calm run is one
+run_of : (g : TaskGraph) (e : Setting) → IsCalmRun g e → IsRunOf g e
+run_of g e run = record { outcome = run.outcome; strikes = run.strikes; lives = run.lives; setting_is = run.setting_is; laws = run.runs.laws }
+
 pub few_turns : (g : TaskGraph) (e : Setting) → IsCalmRun g e → (s : Core) (v : View) (doing : Doing) (hints : List ℕ) (turns : ℕ) → Ledger e s v doing hints turns → turns + 1 < enough_turns g
 few_turns g e run s v doing hints turns ledger =
     let costs = jobs_cost e e.keys ledger.jobs ledger.jobs_once ledger.jobs_listed in
     let looks = looks_few e.graph.notify_words e.keys ledger.looks ledger.looks_once (λ k w some. let has = ledger.looked k w some in (has.key_listed, has.word_inside)) in
-    let words = words_few e.graph.notify_words e.keys (each_in (λ k. e.graph.notify_words k ≤ 17) e.keys (λ k has. run.runs.few_words k (is_core_key g e run k has))) in
-    let many = keys_many g e run in let rows = rows_are g e run in let places = places_are g e run in
-    let ports = ports_below_places e.graph run.runs.serves.lawful e.keys (keys_once g e run) (key_of_place g e run) in
+    let words = words_few e.graph.notify_words e.keys (each_in (λ k. e.graph.notify_words k ≤ 17) e.keys (λ k has. run.runs.few_words k (is_core_key g e (run_of g e run) k has))) in
+    let many = keys_many g e (run_of g e run) in let rows = rows_are g e (run_of g e run) in let places = places_are g e (run_of g e run) in
+    let ports = ports_below_places e.graph run.runs.serves.lawful e.keys (keys_once g e (run_of g e run)) (key_of_place g e (run_of g e run)) in
     let all : sum_by (begun_cost e) ledger.jobs ≤ 80 * e.shape.rows * ((sum_by e.graph.places e.keys + sum_by e.graph.ports e.keys) + 2 * (length g.keys + 1)) = rw (← many) costs in
     let paid = ledger.paid in
     bounded e.shape.rows (length g.keys) (all_places g) (sum_by e.graph.places e.keys + sum_by e.graph.ports e.keys) (sum_by (begun_cost e) ledger.jobs) (length ledger.looks) turns rows all (omega (arith, places, ports)) (omega (arith, looks, words, many)) (omega (arith, paid))

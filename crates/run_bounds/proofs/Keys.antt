@@ -14,7 +14,7 @@ use Rattle.core_state.specs.Rooted.{graph_of, root_key}
 use Rattle.core_state.proofs.Base.Counting.{bump_is, not_here}
 use Rattle.core_state.proofs.Start.Root.{place_of_key}
 use Rattle.core_state.proofs.Start.Setting.{root_matches, task_matches}
-use Rattle.run_bounds.specs.Budgets.{IsCalmRun, all_places}
+use Rattle.run_bounds.specs.Budgets.{IsRunOf, all_places}
 
 -- numbers that ascend stand once
 none_above : (m x : ℕ) (xs : List ℕ) → ((j : ℕ) (d : ℕ) → j < length xs → x < slice_index_or xs j d) → m ≤ x → count (eqb m) xs ≡ 0
@@ -40,7 +40,7 @@ none_such : (m : ℕ) (xs : List ℕ) → AllByRecursion (λ k. m ≢ k) xs → 
 none_such m [] all = refl
 none_such m (x ∷ xs) all = let a = bump_is (eqb m x) (count (eqb m) xs) in let b = none_such m xs all.1 in let c = not_here m x all.0 in omega (arith, a, b, c)
 
-module _ (g : TaskGraph) (e : Setting) (run : IsCalmRun g e) where
+module _ (g : TaskGraph) (e : Setting) (run : IsRunOf g e) where
   keys_are : e.keys ≡ root_key ∷ g.keys
   keys_are = ap (λ (s : Setting). s.keys) run.setting_is
 
@@ -54,7 +54,7 @@ module _ (g : TaskGraph) (e : Setting) (run : IsCalmRun g e) where
   graph_is = ap (λ (s : Setting). s.graph) run.setting_is
 
   laws : IsLawful g
-  laws = run.runs.laws
+  laws = run.laws
 
   pub keys_once : (k : ℕ) → count (eqb k) e.keys ≤ 1
   keys_once k = subst (λ ks. count (eqb k) ks ≤ 1) (sym keys_are)

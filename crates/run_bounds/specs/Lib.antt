@@ -3,3 +3,4 @@ pub mod Calm
 pub mod Hinting
 pub mod Ledger
 pub mod Storm
+pub mod Struck

@@ -61,7 +61,7 @@ module _ (e : Setting) where
         let d : 40 * e.shape.rows * (sum_by e.graph.places e.keys + sum_by e.graph.ports e.keys + 2 * length e.keys) ≡ 40 * (t + 1) * (sum_by e.graph.places e.keys + sum_by e.graph.ports e.keys + 2 * length e.keys) = ap (λ r. 40 * r * (sum_by e.graph.places e.keys + sum_by e.graph.ports e.keys + 2 * length e.keys)) rows in omega (arith, a, b, c, d)
 
     -- a replacement that is begun
-    pub suspect_few : (k : ℕ) → Contains e.keys k → e.graph.notify_words k ≤ 17 → suspect_rest e k ≤ 20 * (t + 1) * (n + 4)
+    pub suspect_few : (k : ℕ) → Contains e.keys k → e.graph.notify_words k ≤ 17 → suspect_rest e k + 1 ≤ 20 * (t + 1) * (n + 4)
     suspect_few k has words = let a = few_ports k (counted_in k e.keys has) in
         let b : (t + 10) * (e.graph.ports k - 0) ≤ (t + 10) * (n + 1) = mul-le-mul_left (t + 10) (omega (arith, a)) in
         let c : (e.graph.ports k - 0) * (e.shape.rows + 9) ≡ (e.graph.ports k - 0) * (t + 1 + 9) = ap (λ r. (e.graph.ports k - 0) * (r + 9)) rows in
