@@ -32,7 +32,7 @@ hit_here (hit_of.Notify w) = eqb_here w
 hit_here (hit_of.Block b v) = Rattle.core_state.proofs.Base.Counting.two_here b v
 
 -- where no strike landed on any hit up to any life, none landed
-unstruck : (xs : List Record) → ((k l : ℕ) (h : Hit) → count (is_struck_upto k l h) xs ≡ 0) → count is_any_struck xs ≡ 0
+pub unstruck : (xs : List Record) → ((k l : ℕ) (h : Hit) → count (is_struck_upto k l h) xs ≡ 0) → count is_any_struck xs ≡ 0
 unstruck [] none = refl
 unstruck (x ∷ xs) none = by x none (unstruck xs (λ k l h. let a = none k l h in let b = bump_is (is_struck_upto k l h x) (count (is_struck_upto k l h) xs) in omega (arith, a, b)))
   where

@@ -12,7 +12,7 @@ use Rattle.core_state.specs.Invariant.{Invariant}
 use Rattle.core_state.specs.Events.{Event, after, at, left}
 use Rattle.core_state.specs.Lines.{Line, flat, of}
 use Rattle.core_state.specs.Packed.{notify_word}
-use Rattle.core_state.specs.Tests.{is_closed, is_renew, is_replaced}
+use Rattle.core_state.specs.Tests.{is_any_struck, is_closed, is_renew, is_replaced}
 use Rattle.core_state.specs.declared.job.Job.{Job}
 use Rattle.core_state.specs.declared.job.Job.TheVariants as job
 use Rattle.core_state.specs.declared.views.Item.TheVariants as line
@@ -112,6 +112,8 @@ pub record Charged (e : Setting) (p : List Strike) (most : ℕ) (s : Core) (v : 
   pub bad : (a k l : ℕ) → 0 < count (is_lived a k l) bads → (a ≡ 0) × (0 < ended job.Compute k l v)
   pub looks_once : (a k l : ℕ) → count (is_lived a k l) looks ≤ 1
   pub looked : (a k l : ℕ) → 0 < count (is_lived a k l) looks → WasSeen e p s v doing k l a
+  -- a mark and a bad block come of a strike that landed
+  pub faulted : 0 < length marks + length bads → 0 < noted is_any_struck v
   -- who renews is at it
   pub renewed : (k : ℕ) → 0 < items (is_renew k) v → IsRenewed v k
   -- no hint is lost

@@ -74,6 +74,7 @@ module _ (g : TaskGraph) (p : List Strike) (most : ℕ) (e : Setting) (lives : �
     bad = λ a k l some. absurd (omega (arith, some));
     looks_once = λ a k l. omega arith;
     looked = λ a k l some. absurd (omega (arith, some));
+    faulted = λ some. absurd (omega (arith, some));
     renewed = λ k some. absurd (let a = ap (items (is_renew k)) is in omega (arith, a, some));
     hinted = λ r low. hints_none 0 0 (s.word (posted job.Explore r)) (s.word (posted job.Compute r)) (no_job job.Explore r low) (no_job job.Compute r low);
   }

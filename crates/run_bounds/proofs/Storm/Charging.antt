@@ -6,11 +6,11 @@ use Rattle.graph_model.specs.declared.plan.Strike.{Strike}
 use Rattle.graph_model.specs.declared.record.Cause.{Cause}
 use Rattle.graph_model.specs.declared.record.Cause.TheVariants as cause
 use Rattle.core_state.specs.Change.{Core}
-use Rattle.core_state.specs.Counts.{count, ended}
+use Rattle.core_state.specs.Counts.{count, ended, items}
 use Rattle.core_state.specs.Events.{Event}
 use Rattle.core_state.specs.Graph.{Setting}
 use Rattle.core_state.specs.Lines.{Line, of}
-use Rattle.core_state.specs.Tests.{is_closed, is_renew}
+use Rattle.core_state.specs.Tests.{is_any_struck, is_any_suspect, is_closed, is_renew}
 use Rattle.core_state.specs.Words.{descriptor, inside, life_of, mark_of, notify, turn}
 use Rattle.core_state.specs.declared.job.Job.TheVariants as job
 use Rattle.core_state.specs.declared.views.Item.TheVariants as line
@@ -35,6 +35,7 @@ use Rattle.run_bounds.proofs.Entered.{noted_grows}
 use Rattle.run_bounds.proofs.Hinting.{hints_as}
 use Rattle.run_bounds.proofs.JobEvents.{begun_grows}
 use Rattle.run_bounds.proofs.Storm.Keeping.{Stays, keep, with_bad, with_mark}
+use Rattle.run_bounds.proofs.Storm.Lone.{blamed_struck, suspected_struck}
 use Rattle.run_bounds.proofs.Storm.Marking.{IsSettled, others_settled}
 use Rattle.run_bounds.proofs.Storm.Preparing.{Prepared, strikes_more}
 use Rattle.run_bounds.proofs.Storm.Renewing.{renewed_before}
@@ -89,6 +90,7 @@ module _ {e : Setting} {s t : Core} {v w : View} (p : List Strike) (most : ℕ) 
       renewed_on = λ k some. absurd (none_renewed v plain k (renewed_before lone later x n step ledger.renewed (plain_apart e v u w n falls x is).1 k some));
       strikes_on = let a = strikes_more e x n u w step.view_is in let b = ap length ready.same_strikes in omega (arith, a, b);
       closed_on = λ k l m closed. let a = noted_grows e (is_closed k l m) x n u w step.view_is in let b = ready.is_ready.same_closed k l m in omega (arith, a, b, closed);
+      struck_on = let a = noted_grows e is_any_struck x n u w step.view_is in let b = ready.same_struck in omega (arith, a, b);
     }
 
     -- words that were seen
@@ -114,7 +116,7 @@ module _ {e : Setting} {s t : Core} {v w : View} (p : List Strike) (most : ℕ) 
 
         -- a mark was seen
         pub marks_on : (k l : ℕ) → (IsSettled v k l → ⊥) → IsBlamed w k l → task_rest e p now ≤ task_rest e p task + suspect_rest e k → Charged e p most t w (works now) left (turns + 1)
-        marks_on k l fresh blamed more = with_mark ledger serving_stays (works now) left t hinted ledger.looks ledger.looks_once looked k l fresh blamed
+        marks_on k l fresh blamed more = with_mark ledger serving_stays (works now) left t hinted ledger.looks ledger.looks_once looked k l fresh blamed (blamed_struck later k l blamed)
             (let a = ledger.paid in let b = put.all in let c = more_struck most (length ledger.marks) (length ledger.bads) (length v.strikes) (length w.strikes) serving_stays.strikes_on in let d = few k in
             let f : most * (length (record { kind = 0; key = k; life = l } ∷ ledger.marks) + 2 * length ledger.bads + 2 * length w.strikes) ≡ most + most * (length ledger.marks + 2 * length ledger.bads + 2 * length w.strikes) = marked_sum most (length ledger.marks) (length ledger.bads) (length w.strikes) in omega (arith, a, b, c, d, f, more))
           where
@@ -122,8 +124,8 @@ module _ {e : Setting} {s t : Core} {v w : View} (p : List Strike) (most : ℕ) 
             marked_sum m a b c = grind arith
 
         -- a bad block was read
-        pub reads_on : (k l : ℕ) → ended job.Compute k l v ≡ 0 → 0 < ended job.Compute k l w → (a b : ℕ) → task_rest e p now ≤ task_rest e p task + (suspect_rest e a + suspect_rest e b) → Charged e p most t w (works now) left (turns + 1)
-        reads_on k l none some i j more = with_bad ledger serving_stays (works now) left t hinted ledger.looks ledger.looks_once looked k l none some
+        pub reads_on : (k l : ℕ) → ended job.Compute k l v ≡ 0 → 0 < ended job.Compute k l w → 0 < items is_any_suspect w → (a b : ℕ) → task_rest e p now ≤ task_rest e p task + (suspect_rest e a + suspect_rest e b) → Charged e p most t w (works now) left (turns + 1)
+        reads_on k l none some suspects i j more = with_bad ledger serving_stays (works now) left t hinted ledger.looks ledger.looks_once looked k l none some (suspected_struck later suspects)
             (let a = ledger.paid in let b = put.all in let c = more_struck most (length ledger.marks) (length ledger.bads) (length v.strikes) (length w.strikes) serving_stays.strikes_on in let d = few i in let g = few j in
             let f : most * (length ledger.marks + 2 * length (record { kind = 0; key = k; life = l } ∷ ledger.bads) + 2 * length w.strikes) ≡ 2 * most + most * (length ledger.marks + 2 * length ledger.bads + 2 * length w.strikes) = bad_sum most (length ledger.marks) (length ledger.bads) (length w.strikes) in omega (arith, a, b, c, d, f, g, more))
           where

@@ -10,7 +10,7 @@ use Rattle.core_state.specs.Graph.{Setting}
 use Rattle.core_state.specs.Guards.{KnowsRow}
 use Rattle.core_state.specs.Lines.{Line, flat, of}
 use Rattle.core_state.specs.Rows.{HasKey}
-use Rattle.core_state.specs.Tests.{is_closed, is_renew}
+use Rattle.core_state.specs.Tests.{is_any_struck, is_closed, is_renew}
 use Rattle.core_state.specs.Words.{posted, replacing}
 use Rattle.core_state.specs.declared.job.Job.{Job}
 use Rattle.core_state.specs.declared.job.Job.TheVariants as job
@@ -82,6 +82,7 @@ module _ {e : Setting} {s t : Core} {v w : View} (p : List Strike) (most : ℕ) 
     renewed_on = renewed;
     strikes_on = strikes_more e x n v w step.view_is;
     closed_on = λ k l m closed. let a = noted_grows e (is_closed k l m) x n v w step.view_is in omega (arith, a, closed);
+    struck_on = let a = noted_grows e is_any_struck x n v w step.view_is in omega (arith, a);
   }
 
   module _ (put : HintsPut hints [] left) where

@@ -95,7 +95,7 @@ module _ {e : Setting} {s t : Core} {v w : View} (p : List Strike) (most : ℕ) 
   excused x n rise (bad k j m was inside wrong) step is low =
       ⊎_elim (λ less. fell x n step is less)
       (λ other. ⊎_elim
-      (λ it. reads_on p most few lone later turns hints left task now ledger others y next x n u ready step (task_rest e p now + 1 ≤ task_rest e p task) is plain not_seen put it.key it.life (held_once it.key it.life it.held_before) it.ended_now (e.graph.pred k j).task k low)
+      (λ it. reads_on p most few lone later turns hints left task now ledger others y next x n u ready step (task_rest e p now + 1 ≤ task_rest e p task) is plain not_seen put it.key it.life (held_once it.key it.life it.held_before) it.ended_now it.suspects_now (e.graph.pred k j).task k low)
       (λ one. misses_on p most few lone later turns hints left task now ledger others y next x n u ready step (task_rest e p now + 1 ≤ task_rest e p task) is plain not_seen put one (e.graph.pred k j).task k low)
       other) is
   excused x n rise (given r k l m i key some same) step is low = absurd is

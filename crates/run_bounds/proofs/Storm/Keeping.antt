@@ -7,7 +7,7 @@ use Rattle.graph_model.specs.declared.plan.Strike.{Strike}
 use Rattle.core_state.specs.Change.{Core}
 use Rattle.core_state.specs.Counts.{begun, count, ended, items, noted}
 use Rattle.core_state.specs.Graph.{Setting}
-use Rattle.core_state.specs.Tests.{is_closed, is_renew, three}
+use Rattle.core_state.specs.Tests.{is_any_struck, is_closed, is_renew, three}
 use Rattle.core_state.specs.Words.{posted}
 use Rattle.core_state.specs.declared.job.Job.{Job}
 use Rattle.core_state.specs.declared.job.Job.TheVariants as job
@@ -41,6 +41,7 @@ pub record Stays (v w : View) : Type 0 where
   pub renewed_on : (k : ℕ) → 0 < items (is_renew k) w → IsRenewed w k
   pub strikes_on : length v.strikes ≤ length w.strikes
   pub closed_on : (k l m : ℕ) → 0 < noted (is_closed k l m) v → 0 < noted (is_closed k l m) w
+  pub struck_on : noted is_any_struck v ≤ noted is_any_struck w
 
 module _ {e : Setting} {p : List Strike} {most : ℕ} {s : Core} {v w : View} {d : Doing} {hints : List ℕ} {turns : ℕ} (ledger : Charged e p most s v d hints turns) (stays : Stays v w) (d' : Doing) (left : List ℕ) where
   -- what it costs
@@ -56,14 +57,17 @@ module _ {e : Setting} {p : List Strike} {most : ℕ} {s : Core} {v w : View} {d
   bad_still : (a k l : ℕ) → 0 < count (is_lived a k l) ledger.bads → (a ≡ 0) × (0 < ended job.Compute k l w)
   bad_still a k l some = let old = ledger.bad a k l some in (old.0, let z = old.1 in let more = stays.ended_on k l in omega (arith, z, more))
 
+  faulted_still : 0 < length ledger.marks + length ledger.bads → 0 < noted is_any_struck w
+  faulted_still some = let a = ledger.faulted some in let b = stays.struck_on in omega (arith, a, b)
+
   module _ (t : Core) (hinted : (r : ℕ) → r < e.shape.rows → HasHints (fresh_hints r d' left) (asked_hints r d') (t.word (posted job.Explore r)) (t.word (posted job.Compute r))) (looks : List Lived) (looks_once : (a k l : ℕ) → count (is_lived a k l) looks ≤ 1) (looked : (a k l : ℕ) → 0 < count (is_lived a k l) looks → WasSeen e p t w d' k l a) where
     -- nothing more is charged, but for words that are seen again
     pub keep : Paid ledger.jobs ledger.marks ledger.bads looks → Charged e p most t w d' left (turns + 1)
-    keep paid = record { jobs = ledger.jobs; marks = ledger.marks; bads = ledger.bads; looks = looks; paid = paid; jobs_once = ledger.jobs_once; jobs_begun = begun_still; marks_once = ledger.marks_once; marked = marked_still; bads_once = ledger.bads_once; bad = bad_still; looks_once = looks_once; looked = looked; renewed = stays.renewed_on; hinted = hinted }
+    keep paid = record { jobs = ledger.jobs; marks = ledger.marks; bads = ledger.bads; looks = looks; paid = paid; jobs_once = ledger.jobs_once; jobs_begun = begun_still; marks_once = ledger.marks_once; marked = marked_still; bads_once = ledger.bads_once; bad = bad_still; looks_once = looks_once; looked = looked; faulted = faulted_still; renewed = stays.renewed_on; hinted = hinted }
 
     -- a mark was seen
-    pub with_mark : (k l : ℕ) → (IsSettled v k l → ⊥) → IsBlamed w k l → Paid ledger.jobs (record { kind = 0; key = k; life = l } ∷ ledger.marks) ledger.bads looks → Charged e p most t w d' left (turns + 1)
-    with_mark k l fresh blamed paid = let y : Lived = record { kind = 0; key = k; life = l } in record {
+    pub with_mark : (k l : ℕ) → (IsSettled v k l → ⊥) → IsBlamed w k l → 0 < noted is_any_struck w → Paid ledger.jobs (record { kind = 0; key = k; life = l } ∷ ledger.marks) ledger.bads looks → Charged e p most t w d' left (turns + 1)
+    with_mark k l fresh blamed struck paid = let y : Lived = record { kind = 0; key = k; life = l } in record {
       jobs = ledger.jobs;
       marks = y ∷ ledger.marks;
       bads = ledger.bads;
@@ -77,13 +81,14 @@ module _ {e : Setting} {p : List Strike} {most : ℕ} {s : Core} {v w : View} {d
       bad = bad_still;
       looks_once = looks_once;
       looked = looked;
+      faulted = λ some. struck;
       renewed = stays.renewed_on;
       hinted = hinted;
     }
 
     -- a bad block was read
-    pub with_bad : (k l : ℕ) → ended job.Compute k l v ≡ 0 → 0 < ended job.Compute k l w → Paid ledger.jobs ledger.marks (record { kind = 0; key = k; life = l } ∷ ledger.bads) looks → Charged e p most t w d' left (turns + 1)
-    with_bad k l none some paid = let y : Lived = record { kind = 0; key = k; life = l } in record {
+    pub with_bad : (k l : ℕ) → ended job.Compute k l v ≡ 0 → 0 < ended job.Compute k l w → 0 < noted is_any_struck w → Paid ledger.jobs ledger.marks (record { kind = 0; key = k; life = l } ∷ ledger.bads) looks → Charged e p most t w d' left (turns + 1)
+    with_bad k l none some struck paid = let y : Lived = record { kind = 0; key = k; life = l } in record {
       jobs = ledger.jobs;
       marks = ledger.marks;
       bads = y ∷ ledger.bads;
@@ -97,6 +102,7 @@ module _ {e : Setting} {p : List Strike} {most : ℕ} {s : Core} {v w : View} {d
       bad = each_more (λ a q m. (a ≡ 0) × (0 < ended job.Compute q m w)) y ledger.bads bad_still (refl, some);
       looks_once = looks_once;
       looked = looked;
+      faulted = λ z. struck;
       renewed = stays.renewed_on;
       hinted = hinted;
     }
@@ -117,6 +123,7 @@ module _ {e : Setting} {p : List Strike} {most : ℕ} {s : Core} {v w : View} {d
       bad = bad_still;
       looks_once = looks_once;
       looked = looked;
+      faulted = faulted_still;
       renewed = stays.renewed_on;
       hinted = hinted;
     }

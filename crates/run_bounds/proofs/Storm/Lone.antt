@@ -1,5 +1,5 @@
 -- What holds of a core with one view, whatever was struck.
-use Rattle.std.proofs.Common.{◌≡◌, ◌≢◌, ◌⊎◌, ℕ, ◌+◌, ◌-◌, ◌<◌, ◌≤◌, true, eqb, Contains, inl, inr, arith, sym, ap, ◌∙◌, subst}
+use Rattle.std.proofs.Common.{◌≡◌, ◌≢◌, ◌⊎◌, ℕ, ◌+◌, ◌-◌, ◌<◌, ◌≤◌, true, eqb, Contains, inl, inr, arith, refl, sym, ap, ◌∙◌, subst}
 use mathlib.Core.Logic.{dite}
 use native.Mathlib.Decide.{ℕ_discrete, dec_lt}
 use Rattle.std.proofs.lemmas.Bool.{lt-ltb}
@@ -7,15 +7,17 @@ use Rattle.core_state.specs.Change.{Core}
 use Rattle.core_state.specs.Counts.{begun, ended, held, hit, items, knows_row, noted, owed}
 use Rattle.core_state.specs.Graph.{Setting}
 use Rattle.core_state.specs.Rows.{HasKey, HasRow, LifeOf, Standing}
-use Rattle.core_state.specs.Tests.{carries, is_owed, is_renew, is_replaced}
+use Rattle.core_state.specs.Tests.{carries, is_any_struck, is_any_suspect, is_owed, is_renew, is_replaced}
 use Rattle.core_state.specs.Words.{descriptor, life_of, posted, recovery, replacing, standing_life}
 use Rattle.core_state.specs.declared.job.Job.{Job}
 use Rattle.core_state.specs.declared.job.Job.TheVariants.{Explore, Compute}
+use Rattle.core_state.specs.declared.views.Item.TheVariants as line
 use Rattle.core_state.specs.declared.views.View.{View}
+use Rattle.core_state.proofs.Lines.Counts.{top_passes}
 use Rattle.core_state.proofs.Own.Sure.{job_once, row_of}
 use Rattle.core_state.proofs.Row.Made.{carries_at, owed_at, renew_at}
 use Rattle.run_bounds.specs.Storm.{IsComeTo}
-use Rattle.run_bounds.specs.Struck.{IsLone, lives_of}
+use Rattle.run_bounds.specs.Struck.{IsBlamed, IsLone, lives_of}
 
 -- one at most
 replacing_one : (n : ℕ) → replacing n ≢ 0 → replacing n ≡ 1
@@ -39,6 +41,15 @@ module _ {e : Setting} {s : Core} {v : View} (lone : IsLone e s v) where
 
   pub renewed_row : (k : ℕ) → 0 < items (is_renew k) v → HasRow e s k
   renewed_row k some = row_of e s lone.holds v within k (is_renew k) (renew_at k) some
+
+  -- where somebody is suspected a strike has landed
+  pub suspected_struck : 0 < items is_any_suspect v → 0 < noted is_any_struck v
+  suspected_struck some = dite (ℕ_discrete (noted is_any_struck v) 0)
+      (λ none. absurd (let a = (lone.holds.no_fault.faultless (lone.alone (noted is_any_struck) ∙ none)).none_suspected in let b = lone.alone (items is_any_suspect) in omega (arith, a, b, some)))
+      (λ ne. omega (arith, ne))
+
+  pub blamed_struck : (k l : ℕ) → IsBlamed v k l → 0 < noted is_any_struck v
+  blamed_struck k l it = suspected_struck (top_passes is_any_suspect v (line.Suspect k l it.cause it.waits) it.below it.top refl)
 
   module _ (r k : ℕ) (has : HasKey e s r k) where
     pub life : LifeOf e s r k (s.word (recovery r))

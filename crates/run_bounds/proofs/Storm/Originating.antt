@@ -17,7 +17,7 @@ use Rattle.core_state.specs.Graph.{Reached, Setting}
 use Rattle.core_state.specs.Graph.Reached.{through}
 use Rattle.core_state.specs.Guards.{KnowsRow, MakesStrike}
 use Rattle.core_state.specs.Lines.{Line, HasLines, credit, first_ended, flat, of}
-use Rattle.core_state.specs.Tests.{carries, is_ended}
+use Rattle.core_state.specs.Tests.{carries, is_any_suspect, is_ended}
 use Rattle.core_state.specs.Words.{life_of, mark_of}
 use Rattle.core_state.specs.declared.block.BlockCells.{BlockCells}
 use Rattle.core_state.specs.declared.job.Job.TheVariants as job
@@ -25,7 +25,7 @@ use Rattle.core_state.specs.declared.views.Item.{Item as Carried}
 use Rattle.core_state.specs.declared.views.Item.TheVariants as line
 use Rattle.core_state.specs.declared.views.View.{View}
 use Rattle.core_state.proofs.Base.Counting.{bump_is, two_here}
-use Rattle.core_state.proofs.Lines.After.{line_stands, loaded_ready, loaded_successor}
+use Rattle.core_state.proofs.Lines.After.{line_stands, loaded_ready, loaded_successor, reads}
 use Rattle.core_state.proofs.Lines.Counts.{missed_block, top_passes}
 use Rattle.core_state.proofs.Lines.Ends.{ended_settled, settled_keeps}
 use Rattle.core_state.proofs.Lines.Outcomes.{leaves}
@@ -103,6 +103,8 @@ bad_ends e v w n k l i was b low top bad is = let a : ℕ = e.graph.block (e.gra
   key = k;
   life = l;
   held_before = top_passes (carries job.Compute k l) v (line.Compute k l true i false) b top (two_here k l);
+  suspects_now = let u : ℕ = e.graph.version (e.graph.pred k i).task in let c : Cause = cause.Block a u (Rattle.core_state.specs.Effects.found_in u was) in
+      let lines = reads e v w n k l i a was false false b low refl top (sym bad) is in top_passes is_any_suspect w (line.Suspect k l c false) b (line_stands e w (line.Suspect k l c false) b refl lines) refl;
   ended_now =
       let all = ap (count (is_ended job.Compute k l)) (ended_settled e x n v w (λ z. absurd cc) is) in
       let first : Rattle.core_state.specs.Outcome.ended_left e x n v ≡ record { job = job.Compute; key = k; life = l } ∷ v.ended =

@@ -9,7 +9,7 @@ use Rattle.core_state.specs.Events.Event.{give_read, give_struck, strike_descrip
 use Rattle.core_state.specs.Graph.{Setting}
 use Rattle.core_state.specs.Lines.{HasLines, of}
 use Rattle.core_state.specs.Outcome.{made_next, strikes_left}
-use Rattle.core_state.specs.Tests.{is_replaced}
+use Rattle.core_state.specs.Tests.{is_any_struck, is_replaced}
 use Rattle.core_state.specs.Views.{strike_next}
 use Rattle.core_state.specs.declared.block.BlockCells.{BlockCells}
 use Rattle.core_state.specs.declared.views.Item.TheVariants as line
@@ -29,12 +29,13 @@ use Rattle.run_bounds.proofs.Prepared.{computed_ready}
 pub record Prepared (v u : View) : Type 0 where
   pub is_ready : IsReady v u
   pub same_replaced : (k l : ℕ) → noted (is_replaced k l) u ≡ noted (is_replaced k l) v
+  pub same_struck : noted is_any_struck u ≡ noted is_any_struck v
   pub same_ended : u.ended ≡ v.ended
   pub same_strikes : u.strikes ≡ v.strikes
   pub line_on : HasLine v → HasLine u
 
 pub prepared_same : (v : View) → Prepared v v
-prepared_same v = record { is_ready = ready_same v; same_replaced = λ k l. refl; same_ended = refl; same_strikes = refl; line_on = λ has. has }
+prepared_same v = record { is_ready = ready_same v; same_replaced = λ k l. refl; same_struck = refl; same_ended = refl; same_strikes = refl; line_on = λ has. has }
 
 pub prepared : (g : TaskGraph) (e : Setting) (v : View) (y : Item) → Stands g e v y → Prepared v (item_prepared e.graph y v)
 prepared g e v item.Credit stands = prepared_same v
@@ -54,6 +55,7 @@ prepared g e v (item.Compute c) stands = by c.phase stands.top.lines_are
         to true = let top = line_stands e v (line.Compute c.duty.key.0 c.duty.life true input false) stands.top.below refl lines in record {
           is_ready = computed_ready v c.duty.key.0 c.duty.life input true false stands.top.below top;
           same_replaced = λ k l. refl;
+          same_struck = refl;
           same_ended = refl;
           same_strikes = refl;
           line_on = λ has. record { first = of (line.Compute c.duty.key.0 c.duty.life true input true); rest = stands.top.below; lines_are = computed_lines v c.duty.key.0 c.duty.life c.duty.key.0 c.duty.life input true false stands.top.below top };

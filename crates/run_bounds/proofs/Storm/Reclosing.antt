@@ -19,7 +19,7 @@ use Rattle.core_state.specs.Outcome.{closed_entries}
 use Rattle.core_state.specs.Packed.{notify_of, notify_word}
 use Rattle.core_state.specs.Rows.{HasKey, Lists}
 use Rattle.core_state.specs.Sure.{IsOpen}
-use Rattle.core_state.specs.Tests.{carries, is_close_from, is_closed, three}
+use Rattle.core_state.specs.Tests.{is_any_struck, carries, is_close_from, is_closed, three}
 use Rattle.core_state.specs.Words.{closed_bit, empty_word, life_of, mark_of, notify}
 use Rattle.core_state.specs.declared.answers.Closing.TheVariants as closing
 use Rattle.core_state.specs.declared.job.Job.TheVariants as job
@@ -56,7 +56,7 @@ use Rattle.run_bounds.proofs.Entered.{noted_grows}
 use Rattle.run_bounds.proofs.JobEvents.{begun_grows}
 use Rattle.run_bounds.proofs.Storm.Charging.{hinted_on, more_struck, seen_next}
 use Rattle.run_bounds.proofs.Storm.Keeping.{Stays, each_more, keep, once_more, with_mark}
-use Rattle.run_bounds.proofs.Storm.Lone.{job_life, known_row, stands}
+use Rattle.run_bounds.proofs.Storm.Lone.{blamed_struck, job_life, known_row, stands}
 use Rattle.run_bounds.proofs.Storm.Marking.{new_notify, none_at_all, others_settled}
 use Rattle.run_bounds.proofs.Storm.Preparing.{strikes_more}
 use Rattle.run_bounds.proofs.Storm.Renewing.{renewed_before}
@@ -145,6 +145,7 @@ module _ {e : Setting} {s t : Core} {v w : View} (p : List Strike) (most : ℕ) 
       renewed_on = λ a some. absurd (none_renewed a (renewed_before lone later closing_step n step ledger.renewed refl a some));
       strikes_on = strikes_more e closing_step n v w step.view_is;
       closed_on = λ a m i closed. let z = noted_grows e (is_closed a m i) closing_step n v w step.view_is in omega (arith, z, closed);
+      struck_on = let z = noted_grows e is_any_struck closing_step n v w step.view_is in omega (arith, z);
     }
 
     hinted : (r : ℕ) → r < e.shape.rows → HasHints (fresh_hints r (works now) left) (asked_hints r (works now)) (t.word (Rattle.core_state.specs.Words.posted job.Explore r)) (t.word (Rattle.core_state.specs.Words.posted job.Compute r))
@@ -186,12 +187,15 @@ module _ {e : Setting} {s t : Core} {v w : View} (p : List Strike) (most : ℕ) 
     struck : mark_of n ≡ 1 → n ≢ taken_as → task_rest e p now ≤ task_rest e p task + suspect_rest e c.duty.key.0 → Charged e p most t w (works now) left (turns + 1)
     struck marked other more = with_mark ledger closing_stays (works now) left t hinted ledger.looks ledger.looks_once looked c.duty.key.0 (life_of n)
         (new_notify lone ledger.renewed none_renewed c.duty.row c.duty.key.0 has c.word n found marked (none_blamed c.duty.key.0 (life_of n)))
-        (let told : closing.Struck (life_of n) ≡ closing_of c.duty.life taken_as n = sym (rw (ne_eqb n taken_as other, eq-eqb (mark_of n) 1 marked)) in
-        let lines = closes_lines e v w n c.duty.key.0 c.duty.life c.word taken_as (closing.Struck (life_of n)) it.top.below top told step.view_is in
-        record { cause = cause.Notify; waits = false; below = it.top.below; marked = refl; top = line_stands e w (line.Suspect c.duty.key.0 (life_of n) cause.Notify false) it.top.below refl lines })
+        blamed (blamed_struck later c.duty.key.0 (life_of n) blamed)
         (let a = ledger.paid in let b = put.all in let d = more_struck most (length ledger.marks) (length ledger.bads) (length v.strikes) (length w.strikes) closing_stays.strikes_on in let f = few c.duty.key.0 in
         let h : most * (length (record { kind = 0; key = c.duty.key.0; life = life_of n } ∷ ledger.marks) + 2 * length ledger.bads + 2 * length w.strikes) ≡ most + most * (length ledger.marks + 2 * length ledger.bads + 2 * length w.strikes) = marked_sum most (length ledger.marks) (length ledger.bads) (length w.strikes) in omega (arith, a, b, d, f, h, more))
       where
+        blamed : IsBlamed w c.duty.key.0 (life_of n)
+        blamed = let told : closing.Struck (life_of n) ≡ closing_of c.duty.life taken_as n = sym (rw (ne_eqb n taken_as other, eq-eqb (mark_of n) 1 marked)) in
+            let lines = closes_lines e v w n c.duty.key.0 c.duty.life c.word taken_as (closing.Struck (life_of n)) it.top.below top told step.view_is in
+            record { cause = cause.Notify; waits = false; below = it.top.below; marked = refl; top = line_stands e w (line.Suspect c.duty.key.0 (life_of n) cause.Notify false) it.top.below refl lines }
+
         marked_sum : (m a b z : ℕ) → m * (suc a + 2 * b + 2 * z) ≡ m + m * (a + 2 * b + 2 * z)
         marked_sum m a b z = grind arith
 

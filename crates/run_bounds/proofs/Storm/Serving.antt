@@ -14,7 +14,7 @@ use Rattle.core_state.specs.Events.Event.{look, take}
 use Rattle.core_state.specs.Graph.{Setting}
 use Rattle.core_state.specs.Lines.{flat, of}
 use Rattle.core_state.specs.Rows.{HasKey}
-use Rattle.core_state.specs.Tests.{is_closed}
+use Rattle.core_state.specs.Tests.{is_any_struck, is_closed}
 use Rattle.core_state.specs.Words.{key, posted}
 use Rattle.core_state.specs.declared.job.Job.{Job}
 use Rattle.core_state.specs.declared.job.Job.TheVariants as job
@@ -66,6 +66,7 @@ module _ {e : Setting} {s t : Core} {v w : View} (p : List Strike) (most : ℕ) 
       renewed_on = λ k some. absurd (none_renewed k (renewed_before lone later x n step ledger.renewed off k some));
       strikes_on = strikes_more e x n v w step.view_is;
       closed_on = λ k l m closed. let a = noted_grows e (is_closed k l m) x n v w step.view_is in omega (arith, a, closed);
+      struck_on = let a = noted_grows e is_any_struck x n v w step.view_is in omega (arith, a);
     }
 
     looked : (d' : Doing) (a k l : ℕ) → 0 < count (is_lived a k l) ledger.looks → WasSeen e p t w d' k l a

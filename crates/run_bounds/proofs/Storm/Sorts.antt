@@ -3,12 +3,13 @@ use Rattle.std.proofs.Common.{◌≡◌, ◌⊎◌, ℕ, ◌+◌, ◌/◌, ◌<�
 use Rattle.graph_model.specs.declared.plan.Strike.{Strike}
 use Rattle.graph_model.specs.declared.record.Cause.{Cause}
 use Rattle.graph_model.specs.declared.record.Cause.TheVariants as cause
-use Rattle.core_state.specs.Counts.{ended, held}
+use Rattle.core_state.specs.Counts.{ended, held, items}
 use Rattle.core_state.specs.Events.{Event}
 use Rattle.core_state.specs.Events.Event.{claim, look, load_descriptor, load_notify, load_recovery, load_pending, load_stop, register, spend, close, elect, renew_notify, renew_descriptor, finish, strike_descriptor, strike_notify, post, take, buy, drop_credit, take_turn, give_read, give_written, give_struck, halt}
 use Rattle.core_state.specs.Graph.{Setting}
 use Rattle.core_state.specs.Guards.{KnowsRow}
 use Rattle.core_state.specs.Lines.{Line, flat, of}
+use Rattle.core_state.specs.Tests.{is_any_suspect}
 use Rattle.core_state.specs.Words.{life_of, mark_of}
 use Rattle.core_state.specs.declared.job.Job.{Job}
 use Rattle.core_state.specs.declared.job.Job.TheVariants as job
@@ -42,6 +43,7 @@ pub record ReadBad (v w : View) : Type 0 where
   pub life : ℕ
   pub held_before : 0 < held job.Compute key life v
   pub ended_now : 0 < ended job.Compute key life w
+  pub suspects_now : 0 < items is_any_suspect w
 
 -- A block that goes home as it was was read and let the rest fall, or was bad, or a strike missed it.
 abbrev pub GoesHome : View → View → Type 0 → Type 0
