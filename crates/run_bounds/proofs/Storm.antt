@@ -19,5 +19,6 @@ pub mod Serving
 pub mod Slots
 pub mod Sorts
 pub mod Strikes
+pub mod Tables
 pub mod Turning
 pub mod Words

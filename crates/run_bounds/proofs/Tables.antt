@@ -12,7 +12,7 @@ use Rattle.core_steps.proofs.Changing.{low_place}
 use Rattle.run_bounds.specs.Calm.{IsCalm, IsStepped, core_in}
 
 -- the sum over one view
-alone : (vs : List View) (f : View → ℕ) → length vs ≡ 1 → total_of vs f ≡ f (view_in vs 0)
+pub alone : (vs : List View) (f : View → ℕ) → length vs ≡ 1 → total_of vs f ≡ f (view_in vs 0)
 unfolding total_of
 alone [] f one = absurd (omega (arith, one))
 alone (v ∷ []) f one = omega arith

@@ -1,5 +1,5 @@
 -- Each turn of a task is paid, whatever was struck.
-use Rattle.std.proofs.Common.{◌≡◌, ℕ, ◌+◌, ◌≤◌, false, List, [], ◌∷◌, Some, None, Option, refl, ap, sym, ◌∙◌, subst}
+use Rattle.std.proofs.Common.{◌≡◌, ℕ, ◌+◌, ◌≤◌, List, [], ◌∷◌, ◌++◌, Some, None, Option, ⊎_elim, inl, arith, refl, ap, sym, ◌∙◌, subst}
 use Rattle.graph_model.specs.Graph.{Graph as TaskGraph}
 use Rattle.graph_model.specs.declared.plan.Strike.{Strike}
 use Rattle.core_state.specs.Change.{Core}
@@ -24,8 +24,8 @@ use Rattle.compute_notify.specs.declared.item.Item.TheVariants as item
 use Rattle.compute_notify.specs.declared.task.Task.{Task}
 use Rattle.compute_notify.proofs.Turned.{next_stands, next_top}
 use Rattle.run_bounds.specs.Hinting.{HintsPut}
-use Rattle.run_bounds.specs.Ledger.Doing.{works}
-use Rattle.run_bounds.specs.Struck.{Charged, IsLone, IsMade, Turned}
+use Rattle.run_bounds.specs.Ledger.Doing.{idle, works}
+use Rattle.run_bounds.specs.Struck.{Charged, IsLone, IsMade, Turned, WasSeen}
 use Rattle.run_bounds.proofs.Storm.Electing.{elects_on, renews_on}
 use Rattle.run_bounds.proofs.Storm.Excusing.{serves_on}
 use Rattle.run_bounds.proofs.Storm.Originating.{sort_of}
@@ -91,3 +91,36 @@ pub turns_task : {e : Setting} {s t : Core} {v w : View} (p : List Strike) (most
     → (g : TaskGraph) (lives : ℕ) → Runs g p lives e → Holds g e v task → Turned e p s t v w task now rows → HintsPut hints rows left → Charged e p most t w (works now) left (turns + 1)
 turns_task p most few lone later turns hints rows left task now ledger g lives runs holds turned put =
     turns_item p most few lone later turns hints left task now ledger g lives runs holds turned.left turned.item turned.is_next turned.found turned.stepped turned.rest turned.again (subst (λ z. HintsPut hints z left) turned.hints put) turned.good
+
+-- a list with something behind others is not empty
+something_behind : (xs left : List Item) (y : Item) → xs ≡ left ++ y ∷ [] → xs ≡ [] → ⊥
+something_behind xs [] y is none = let z : y ∷ [] ≡ [] = sym is ∙ none in cc
+something_behind xs (x ∷ left) y is none = let z : x ∷ (left ++ y ∷ []) ≡ [] = sym is ∙ none in cc
+
+-- a task without items is done
+pub task_done : (e : Setting) (p : List Strike) (most : ℕ) (s : Core) (v : View) (hints : List ℕ) (turns : ℕ) (task : Task) → Charged e p most s v (works task) hints turns → task_items task ≡ [] → Charged e p most s v idle hints turns
+task_done e p most s v hints turns task ledger none = record {
+  jobs = ledger.jobs;
+  marks = ledger.marks;
+  bads = ledger.bads;
+  looks = ledger.looks;
+  paid = let a = ledger.paid in omega (arith, a);
+  jobs_once = ledger.jobs_once;
+  jobs_begun = ledger.jobs_begun;
+  marks_once = ledger.marks_once;
+  marked = ledger.marked;
+  bads_once = ledger.bads_once;
+  bad = ledger.bad;
+  looks_once = ledger.looks_once;
+  looked = λ a k l some. on a k l (ledger.looked a k l some);
+  faulted = ledger.faulted;
+  renewed = ledger.renewed;
+  hinted = λ r low. ledger.hinted r low;
+}
+  where
+    on : (a k l : ℕ) → WasSeen e p s v (works task) k l a → WasSeen e p s v idle k l a
+    on a k l was = record {
+      inside = was.inside;
+      begun = was.begun;
+      settled = ⊎_elim (λ closed. inl closed) (λ seen. absurd (let same : seen.task ≡ task = (let q = seen.doing_is in cc) in something_behind (task_items task) seen.left (item.Close seen.close) (sym (ap task_items same) ∙ seen.items_are) none)) was.settled;
+    }
