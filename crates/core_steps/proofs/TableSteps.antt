@@ -8,6 +8,7 @@ use Rattle.core_state.specs.Views.{blank}
 use Rattle.core_steps.specs.declared.kinds.Touched.{Touched}
 use Rattle.core_steps.specs.Table.{Plain, IsSound, IsWordAt, IsTableStep, view_at}
 use Rattle.core_steps.proofs.Changing.{low_place}
+use Rattle.core_steps.proofs.Inside.{spot_inside}
 
 -- a word with a name is one of the table's
 pub place_within : (e : Setting) (p : Plain) (a : Spot) (h : Shape) (n : ℕ) → IsSound e p → inside p.shape a ≡ true → h ≡ p.shape → n ≡ place_of h a → n < length p.words
@@ -22,7 +23,7 @@ pub table_step : (e : Setting) (i : ℕ) (x : Event) (t : Touched) (p q : Plain)
 table_step e i x t p q low can word sound now words views = let place : place_of p.shape (at x) ≡ place_of e.shape (at x) = ap (λ (h : Shape). place_of h (at x)) sound.shape_is in let here : t.at ≡ place_of e.shape (at x) = word.at_is ∙ place in record {
   can = can;
   at_is = here;
-  words = record { found_is = word.found_is ∙ ap (λ n. get_or p.words n 0) here; words_are = words ∙ ap (λ n. set p.words n (left e x t.found)) here };
+  words = record { within = ap (λ (h : Shape). inside h (at x)) (sym sound.shape_is) ∙ spot_inside e p i low sound x can; found_is = word.found_is ∙ ap (λ n. get_or p.words n 0) here; words_are = words ∙ ap (λ n. set p.words n (left e x t.found)) here };
   view_is = ap (λ vs. get_or vs i blank) views ∙ get_or-set_same p.views i (after e x t.found (view_at p i)) blank low;
   others_are = ap (λ vs. set vs i blank) views ∙ set-set p.views i (after e x t.found (view_at p i)) blank;
   workers_are = ap length views ∙ length-set p.views i (after e x t.found (view_at p i));

@@ -1,7 +1,7 @@
 -- The plain table as clauses see it, and what holds of it at all times.
 use Rattle.std.specs.Prelude.{◌≡◌, ℕ, ℤ, ◌+◌, ◌-◌, ◌*◌, ◌%◌, ◌<◌, ◌≤◌, ◌^◌, min, ◌++◌, ◌&&◌, Bool, true, false, cond, eqb, List, [], ◌∷◌, Option, Some, None, length, replicate, slice_index, slice_index_or, slice_set}
 use Rattle.core_state.specs.Graph.{Setting, Sound}
-use Rattle.core_state.specs.Words.{Shape, Spot, width, place_of, key, turn}
+use Rattle.core_state.specs.Words.{Shape, Spot, width, place_of, inside, key, turn}
 use Rattle.core_state.specs.Counts.{count, in_hand, noted, total_of}
 use Rattle.core_state.specs.Tests.{key_named}
 use Rattle.core_state.specs.Change.{Core, core_of, block_of}
@@ -180,6 +180,7 @@ pub record IsWordAt (p : Plain) (a : Spot) (t : Touched) : Type 0 where
 
 -- the words of a table before and after an event of a seat that found the number n: it stood at the event's spot, where what the event leaves of it stands now, and all other words are the same
 pub record WordsAfter (e : Setting) (x : Event) (n : ℕ) (before now : List ℕ) : Type 0 where
+  pub within : inside e.shape (at x) ≡ true
   pub found_is : n ≡ slice_index before (place_of e.shape (at x))
   pub words_are : now ≡ slice_set before (place_of e.shape (at x)) (left e x n)
 
@@ -195,16 +196,17 @@ pub record IsTableStep (e : Setting) (i : ℕ) (x : Event) (t : Touched) (p q : 
   pub before : IsSound e p
   pub afterwards : IsSound e q
 
--- a seat as its calls see it: the table, by which name it was lent, whose seat it is, and the steps that were made
+-- a seat as its calls see it: the table, by which name it was lent, whose seat it is, the steps that were made, and the words that it found
 pub record Sitting : Type 0 where
   pub table : Plain
   pub name : ℕ
   pub worker : ℕ
   pub steps : Trace
+  pub lent : List ℕ
 
 -- what who lent the table learns it by
 abbrev pub lender_of : Sitting → List ℕ
-lender_of s = s.name ∷ s.worker ∷ []
+lender_of s = s.name ∷ s.worker ∷ s.lent
 
 -- one step of such a seat
 abbrev pub IsSeatStep : Setting → Event → Sitting → Sitting → Type 0

@@ -95,6 +95,7 @@ impl<C: Course> PlainTable<C> {
         requires can { CanCompute C.setting (view_at self.old worker) key.0 life }
         requires room { 0 < spare_of self.old worker }
         ensures views { self.new.views ≡ slice_set self.old.views worker (after_computed key.0 life (view_at self.old worker)) }
+        ensures words { self.new.words ≡ self.old.words }
         ensures room { spare_of self.old worker ≤ spare_of self.new worker + 1 }
         ensures sound { IsSound C.setting self.new }
     {

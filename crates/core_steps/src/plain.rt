@@ -6,6 +6,7 @@ use crate::making::{
     written_cells,
 };
 use crate::store::Store;
+use crate::trace;
 use crate::views::{BlockStepping, Computing, First, Stepped, Stepping, Views};
 use core_state::{BlockCells, Course, Layout, RowWords};
 use ghost_value::Ghost;
@@ -156,11 +157,19 @@ impl<C: Course> PlainTable<C> {
         self.stores.len()
     }
 
+    /// The words as they stand.
+    pub(crate) fn standing(&self) -> Ghost<trace::Words>
+        ensures { result ≡ self.now.words }
+    {
+        Ghost::of::<trace::Standing<'_>, trace::Found>(&trace::Standing { words: &self.words })
+    }
+
     /// Makes room for so many records of a worker.
     #[tactic(auto, using(crate::proofs::Recording::min_grows, crate::proofs::Recording::min_least))]
     pub(crate) fn reserve(&mut self, worker: usize, n: u32) -> Result<(), AllocError>
         requires worker { worker < length self.old.views }
         ensures views { self.new.views ≡ self.old.views }
+        ensures words { self.new.words ≡ self.old.words }
         ensures more { spare_of self.old worker ≤ spare_of self.new worker }
         ensures room { OnOk result (n ≤ spare_of self.new worker) }
         ensures sound { IsSound C.setting self.new }

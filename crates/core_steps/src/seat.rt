@@ -24,7 +24,10 @@ pub struct PlainSeat<'a, C: Course> {
     table: &'a mut PlainTable<C>,
     worker: usize,
     steps: Ghost<trace::Steps>,
+    // The table's words as the seat found them, and so they stand until its first step.
+    lent: Ghost<trace::Words>,
     ghost inside: { worker < length table.now.views },
+    ghost unstepped: { steps.made ≡ 0 → table.now.words ≡ lent },
 }
 
 impl<'a, C: Course> Drop for PlainSeat<'a, C> {
@@ -35,6 +38,7 @@ impl<'a, C: Course> Drop for PlainSeat<'a, C> {
             table: _,
             worker: _,
             steps: _,
+            lent: _,
         } = self;
     }
 }
@@ -46,11 +50,15 @@ impl<C: Course> PlainTable<C> {
         ensures lender { result.table.ghost_name ≡ self.entry.ghost_name }
         ensures table { result.table.now ≡ self.entry.now }
         ensures worker { result.worker ≡ worker }
+        ensures unstepped { result.steps.made ≡ 0 }
+        ensures lent { result.lent ≡ self.entry.now.words }
     {
+        let lent = self.standing();
         PlainSeat {
             table: self,
             worker: worker as usize,
             steps: Ghost::of::<(), trace::NoStep>(&()),
+            lent,
         }
     }
 }
@@ -72,7 +80,7 @@ impl<'a, C: Course> KeyWords for PlainSeat<'a, C> {
 
     ghost last = { λ s. s.steps.last };
 
-    ghost did = { λ s row claimed t. Can C.setting (view_at s.table.now s.worker) (key_event row claimed) × IsSeatStep C.setting (key_event row claimed) (record { table = s.table.now; name = s.table.ghost_name; worker = s.worker; steps = s.steps }) (record { table = t.table.now; name = t.table.ghost_name; worker = t.worker; steps = t.steps }) };
+    ghost did = { λ s row claimed t. Can C.setting (view_at s.table.now s.worker) (key_event row claimed) × IsSeatStep C.setting (key_event row claimed) (record { table = s.table.now; name = s.table.ghost_name; worker = s.worker; steps = s.steps; lent = s.lent }) (record { table = t.table.now; name = t.table.ghost_name; worker = t.worker; steps = t.steps; lent = t.lent }) };
 
     fn rows(&self) -> u32 {
         self.table.rows()
@@ -107,7 +115,7 @@ impl<'a, C: Course> Steps for PlainSeat<'a, C> {
 
     ghost happened = { λ s x n t. WordsAfter C.setting x n s.table.now.words t.table.now.words };
 
-    ghost lender = { λ s. s.table.ghost_name ∷ s.worker ∷ [] };
+    ghost lender = { λ s. s.table.ghost_name ∷ s.worker ∷ s.lent };
 
     ghost others = { λ s. slice_set s.table.now.views s.worker blank };
 

@@ -49,3 +49,27 @@ impl<'a> Gives<KeyStep<'a>, Steps> for Stepped {
 
     ghost value = { λ s. record { made = s.before.now.made + 1; shown = (s.word.at, s.word.found); last = (s.row, s.word.found) } };
 }
+
+/// The words of a table. No value of it is made.
+pub struct Words;
+
+impl Model for Words {
+    ghost use Rattle.std.specs.Prelude.{List, [], ℕ};
+
+    ghost Value = { List ℕ };
+
+    ghost view = { λ _. [] };
+}
+
+/// The words as they are.
+#[derive(Drop)]
+pub struct Standing<'a> {
+    pub words: &'a Vec<u64>,
+}
+
+/// As they were found.
+pub struct Found;
+
+impl<'a> Gives<Standing<'a>, Words> for Found {
+    ghost value = { λ s. s.words.now.items };
+}

@@ -11,8 +11,8 @@ use Rattle.core_steps.proofs.Seats.{seat_step}
 use Rattle.core_steps.proofs.seat.PlainSeatSteps.post.Goals as goal
 
 pub returns-clause-step : goal.returns-clause-step
-returns-clause-step g c = let step = c.post-told.ensures.step in rw (c.stepped.ensures)
-    (seat_step _ _ _ _ _ _ _ _ _ c.args.self.now _ c.args.self.now.worker c.post-told.result.1 c.args.self.now.table.now _ step refl refl refl refl refl refl refl refl refl step.words)
+returns-clause-step g c = let step = c.post-told.ensures.step in
+    seat_step _ _ _ _ _ _ _ _ _ c.args.self.now _ c.args.self.now.worker c.post-told.result.1 c.args.self.now.table.now _ step refl refl refl refl refl refl (λ j. (c.stepped.ensures j).shown) (λ j. (c.stepped.ensures j).made) (λ j. (c.stepped.ensures j).last) step.words
 
 pub returns-clause-fresh : goal.returns-clause-fresh
 returns-clause-fresh g c some = let step = c.post-told.ensures.step in let p = c.args.self.now.table.now in let number = c.post-told.ensures.number in

@@ -3,5 +3,5 @@ use Rattle.core_steps.proofs.Seats.{seat_step}
 use Rattle.core_steps.proofs.seat.PlainSeatSteps.renew_notify.Goals as goal
 
 pub returns-clause-step : goal.returns-clause-step
-returns-clause-step g c = let step = c.renew_notify-touched.ensures.step in rw (c.stepped.ensures)
-    (seat_step _ _ _ _ _ _ _ _ _ c.args.self.now _ c.args.self.now.worker c.renew_notify-touched.result c.args.self.now.table.now _ step refl refl refl refl refl refl refl refl refl step.words)
+returns-clause-step g c = let step = c.renew_notify-touched.ensures.step in
+    seat_step _ _ _ _ _ _ _ _ _ c.args.self.now _ c.args.self.now.worker c.renew_notify-touched.result c.args.self.now.table.now _ step refl refl refl refl refl refl (λ j. (c.stepped.ensures j).shown) (λ j. (c.stepped.ensures j).made) (λ j. (c.stepped.ensures j).last) step.words
