@@ -29,7 +29,7 @@ use Rattle.core_steps.proofs.AtPlain.{core_at}
 use Rattle.task_table.specs.Kept.{Board, Kept, blocks_in, plain_of}
 use Rattle.task_table.specs.Moments.{Did, Glance, IsReady, Looked, Made, Mine, Took}
 use Rattle.task_table.proofs.Blocks.{give_kept, home_slot, make_kept, take_kept, taken_good, taken_sized}
-use Rattle.task_table.proofs.Standing.{calm_kept, place_low, viewed, word_here}
+use Rattle.task_table.proofs.Standing.{calm_kept, place_low, spot_here, viewed, word_here}
 
 -- the word on which a seat is ready to step is one of the table's
 pub ready_low : (e : Setting) (z : TableId) (v : View) (x : Event) (word : ℕ) → IsReady e z v x word → word < z.words
@@ -77,7 +77,7 @@ module _ (e : Setting) (slots id : ℕ) (me : Mine) where
                   kept_now = k;
                   was = here;
                   views_are = refl;
-                  words_are = record { found_is = refl; words_are = ap (set s.words (place_of e.shape (at x))) (sym same) };
+                  words_are = record { within = spot_here kept id me.0 here x can; found_is = refl; words_are = ap (set s.words (place_of e.shape (at x))) (sym same) };
                 };
               },
             )
@@ -127,7 +127,7 @@ module _ (e : Setting) (slots id : ℕ) (me : Mine) where
                       kept_now = k;
                       was = here;
                       views_are = refl;
-                      words_are = record { found_is = sym z; words_are = ap (set s.words (place_of e.shape (turn b))) one };
+                      words_are = record { within = spot_here kept id me.0 here (take_turn b x) can; found_is = sym z; words_are = ap (set s.words (place_of e.shape (turn b))) one };
                     };
                   };
                   sized = taken_sized kept id me.0 here b can z;
@@ -163,7 +163,7 @@ module _ (e : Setting) (slots id : ℕ) (me : Mine) where
                       kept_now = k;
                       was = here;
                       views_are = refl;
-                      words_are = record { found_is = refl; words_are = ap (set s.words (place_of e.shape (turn b))) (sym same) };
+                      words_are = record { within = spot_here kept id me.0 here x can; found_is = refl; words_are = ap (set s.words (place_of e.shape (turn b))) (sym same) };
                     };
                   },
                 );
@@ -207,7 +207,7 @@ module _ (e : Setting) (slots id : ℕ) (me : Mine) where
                   kept_now = k;
                   was = here;
                   views_are = refl;
-                  words_are = record { found_is = ap (λ o. get_or s.words (place_of e.shape o) 0) (sym (give_spot kind)); words_are = λ j. set s.words (place_of e.shape (sym (give_spot kind) j)) (sym (none_left kind given n) j) };
+                  words_are = record { within = spot_here kept id me.0 here (block_event me.0 kind b x) can; found_is = ap (λ o. get_or s.words (place_of e.shape o) 0) (sym (give_spot kind)); words_are = λ j. set s.words (place_of e.shape (sym (give_spot kind) j)) (sym (none_left kind given n) j) };
                 };
               },
             )
