@@ -1,4 +1,4 @@
-use Rattle.std.proofs.Common.{ℕ, List, [], ◌∷◌, get_or, ◌≡◌, ◌∙◌, set, length, ap, arith, refl, None, rules}
+use Rattle.std.proofs.Common.{ℕ, List, ◌∷◌, get_or, ◌≡◌, ◌∙◌, set, length, ap, arith, refl, None, rules}
 use Rattle.core_state.specs.Views.{blank}
 use Rattle.core_steps.specs.Table.{view_at}
 use Rattle.core_steps.proofs.Walking.{walk_table}
@@ -8,7 +8,7 @@ use Rattle.core_tests.proofs.one_task.find_none.Goals as goal
 
 pub returns : goal.returns
 returns g c =
-    let a = walk_table _ (λ s. one_task) (λ s. s.table.ghost_name ∷ s.worker ∷ []) (λ s. set s.table.now.views s.worker blank) (λ s t row claimed d. record { same_setting = refl; same_lender = d.1.table.same_lender; same_others = d.1.table.same_others }) 1 _ None _ _ _ c.find.ensures.walk in
+    let a = walk_table _ (λ s. one_task) (λ s. s.table.ghost_name ∷ s.worker ∷ s.lent) (λ s. set s.table.now.views s.worker blank) (λ s t row claimed d. record { same_setting = refl; same_lender = d.1.table.same_lender; same_others = d.1.table.same_others }) 1 _ None _ _ _ c.find.ensures.walk in
     let b = c.reserve.ensures.table in
     let seat = c.seat-seat.ensures in
     let lender = a.same_lender ∙ b.same_lender in

@@ -1,4 +1,4 @@
-use Rattle.std.proofs.Common.{List, [], ◌∷◌, get_or, ◌≡◌, ◌∙◌, ◌+◌, ℕ, Bool, true, false, MatchBool, set, length, ap, sym, subst, arith, refl, Some, rules}
+use Rattle.std.proofs.Common.{List, ◌∷◌, get_or, ◌≡◌, ◌∙◌, ◌+◌, ℕ, Bool, true, false, MatchBool, set, length, ap, sym, subst, arith, refl, Some, rules}
 use Rattle.core_state.specs.Guards.{AtWork}
 use Rattle.core_state.specs.Views.{blank, opener}
 use Rattle.core_state.specs.declared.job.Job.TheVariants.{Explore}
@@ -44,16 +44,16 @@ returns g c =
     let x = c.find_or_make-row.ensures in
     let y = c.find_or_make.ensures in
     let again = y.again c.find_or_make-row.result.0 x.known in
-    let makes : second ≡ made_row 1 (knowing second.known first) = claims_made _ (λ s. one_task) (λ s. view_at s.table.now s.worker) (λ s. s.steps.last) (λ s. s.table.ghost_name ∷ s.worker ∷ []) (λ s. set s.table.now.views s.worker blank) (λ s t row claimed d. seat_key one_task row claimed _ _ d.1)
+    let makes : second ≡ made_row 1 (knowing second.known first) = claims_made _ (λ s. one_task) (λ s. view_at s.table.now s.worker) (λ s. s.steps.last) (λ s. s.table.ghost_name ∷ s.worker ∷ s.lent) (λ s. set s.table.now.views s.worker blank) (λ s t row claimed d. seat_key one_task row claimed _ _ d.1)
     (λ s t row claimed d. record { same_setting = refl; same_lender = d.1.table.same_lender; same_others = d.1.table.same_others }) _ (λ s row. refl) _ 1 2 (omega arith) _ _ _ _ _ (subst (IsSettled one_task) (sym opens) opener_settled) x.rules _ x.known x.last x.walk
     (made_last c.find_or_make-row.result.1 _ made x.made) (λ e. let a = (x.again c.find_or_make-row.result.0 e).1 in cc) in
     let at_work : AtWork second (item.Owe 1 Explore 1) = owes 1 second.known first second (item.Explore root 1 0) makes (subst (λ v. AtWork v (item.Explore root 1 0)) (sym opens) opener_at_work) in
-    let finds : third ≡ knowing third.known second = claims_found _ (λ s. one_task) (λ s. view_at s.table.now s.worker) (λ s. s.steps.last) (λ s. s.table.ghost_name ∷ s.worker ∷ []) (λ s. set s.table.now.views s.worker blank) (λ s t row claimed d. seat_key one_task row claimed _ _ d.1)
+    let finds : third ≡ knowing third.known second = claims_found _ (λ s. one_task) (λ s. view_at s.table.now s.worker) (λ s. s.steps.last) (λ s. s.table.ghost_name ∷ s.worker ∷ s.lent) (λ s. set s.table.now.views s.worker blank) (λ s t row claimed d. seat_key one_task row claimed _ _ d.1)
     (λ s t row claimed d. record { same_setting = refl; same_lender = d.1.table.same_lender; same_others = d.1.table.same_others }) _ (λ s row. refl) _ 1 2 (omega arith) _ _ _ _ _ (settled_at one_task second (item.Owe 1 Explore 1) refl at_work) y.rules _ y.known y.last y.walk
     (found_last c.find_or_make.result.1 _ again.1 y.made) in
     let table = c.reserve.ensures.table in
-    let made_table = walk_table _ (λ s. one_task) (λ s. s.table.ghost_name ∷ s.worker ∷ []) (λ s. set s.table.now.views s.worker blank) (λ s t row claimed d. record { same_setting = refl; same_lender = d.1.table.same_lender; same_others = d.1.table.same_others }) 1 2 (Some 1) _ _ _ x.walk in
-    let found_table = walk_table _ (λ s. one_task) (λ s. s.table.ghost_name ∷ s.worker ∷ []) (λ s. set s.table.now.views s.worker blank) (λ s t row claimed d. record { same_setting = refl; same_lender = d.1.table.same_lender; same_others = d.1.table.same_others }) 1 2 (Some 1) _ _ _ y.walk in
+    let made_table = walk_table _ (λ s. one_task) (λ s. s.table.ghost_name ∷ s.worker ∷ s.lent) (λ s. set s.table.now.views s.worker blank) (λ s t row claimed d. record { same_setting = refl; same_lender = d.1.table.same_lender; same_others = d.1.table.same_others }) 1 2 (Some 1) _ _ _ x.walk in
+    let found_table = walk_table _ (λ s. one_task) (λ s. s.table.ghost_name ∷ s.worker ∷ s.lent) (λ s. set s.table.now.views s.worker blank) (λ s t row claimed d. record { same_setting = refl; same_lender = d.1.table.same_lender; same_others = d.1.table.same_others }) 1 2 (Some 1) _ _ _ y.walk in
     let lender = found_table.same_lender ∙ made_table.same_lender ∙ table.same_lender in
     let others = found_table.same_others ∙ made_table.same_others ∙ table.same_others in
     let at : c.find_or_make.new.words.worker ≡ 0 = ap (λ (x : List ℕ). get_or x 1 0) lender ∙ seat.worker in
