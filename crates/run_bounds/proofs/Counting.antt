@@ -53,7 +53,3 @@ each_counted P same here (x ∷ xs) all = (
   all x (let a = ap hit (here x) in let b = bump_is (same x x) (count (same x) xs) in omega (arith, a, b)),
   each_counted P same here xs (λ y some. all y (let b = bump_is (same y x) (count (same y) xs) in omega (arith, some, b))),
 )
-
--- a list without one element has no more of any other
-pub other_count : {X : Type 0} (p : X → Bool) (x : X) (xs : List X) → count p (x ∷ xs) ≡ hit (p x) + count p xs
-other_count p x xs = bump_is (p x) (count p xs)

@@ -1,8 +1,9 @@
 -- Turns that are counted by a schedule, a plan, the tasks and their places are enough, and so are those of one worker with room for more.
-use Rattle.std.proofs.Common.{◌≡◌, ℕ, ◌+◌, ◌*◌, ◌-◌, ◌^◌, ◌<◌, ◌≤◌, min, max, length, arith}
+use Rattle.std.proofs.Common.{◌≡◌, ℕ, ◌+◌, ◌*◌, ◌-◌, ◌^◌, ◌<◌, ◌≤◌, min, max, length, arith, ap}
 use Rattle.std.proofs.Math.Nat.{le-max_left, le-min}
 use Rattle.graph_model.specs.Graph.{Graph as TaskGraph}
 use Rattle.run_bounds.specs.Budgets.{all_places, enough_turns}
+use Rattle.run_bounds.specs.Storm.{enough_turns_of}
 
 -- a product is at least each factor, where the other is not zero
 as_much : (x m : ℕ) → 0 < m → x ≤ x * m
@@ -33,3 +34,12 @@ enough_ample g schedule strikes some tasks places = let t : ℕ = length g.keys 
     let a = ample schedule strikes t q some (omega arith) in
     let b = le-max_left (200 * schedule * (2 * strikes + 1) * (t + 1) * q * q) 1000000 in
     le-min (omega (arith, a, b)) (counted t (all_places g) tasks places)
+
+-- and enough for a plan of which each strike replaces one life at most, where a counter holds so many
+pub enough_planned : (g : TaskGraph) (schedule strikes : ℕ) → enough_turns_of g schedule strikes strikes < 2 ^ 64
+    → enough_turns_of g schedule strikes strikes ≤ min (max (200 * schedule * (2 * strikes + 1) * (length g.keys + 1) * (all_places g + length g.keys + 2) * (all_places g + length g.keys + 2)) 1000000) (2 ^ 64 - 1)
+enough_planned g schedule strikes counted = let t : ℕ = length g.keys + 1 in let q : ℕ = all_places g + length g.keys + 2 in
+    let twice : strikes + strikes + 1 ≡ 2 * strikes + 1 = omega arith in
+    let a : 200 * schedule * (strikes + strikes + 1) * t * q * q ≡ 200 * schedule * (2 * strikes + 1) * t * q * q = ap (λ n. 200 * schedule * n * t * q * q) twice in
+    let b = le-max_left (200 * schedule * (2 * strikes + 1) * t * q * q) 1000000 in
+    le-min (omega (arith, a, b)) (omega (arith, counted))

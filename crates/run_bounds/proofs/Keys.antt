@@ -1,5 +1,5 @@
 -- The keys of a run: the tasks and the root, each once, with all places that there are.
-use Rattle.std.proofs.Common.{◌≡◌, ◌≢◌, ℕ, zero, suc, ◌+◌, ◌<◌, ◌≤◌, eqb, List, [], ◌∷◌, length, Contains, slice_index_or, ⊎_elim, inl, inr, arith, refl, ap, sym, subst}
+use Rattle.std.proofs.Common.{◌≡◌, ◌≢◌, ℕ, suc, ◌+◌, ◌<◌, ◌≤◌, eqb, List, [], ◌∷◌, length, Contains, slice_index_or, ⊎_elim, arith, refl, ap, sym, subst}
 use Rattle.std.specs.List.{AllByRecursion, AllPairs, sum_by}
 use Rattle.std.proofs.lemmas.Bool.Decides.{eqb_tells}
 use Rattle.std.proofs.lemmas.List.{get_or_default}
@@ -7,7 +7,6 @@ use Rattle.std.proofs.lemmas.List.Elements.{recursion_from_All}
 use Rattle.std.proofs.lemmas.List.Kept.{AllPairs-from_increasing}
 use Rattle.std.proofs.lemmas.List.Sums.{sum_by-cons}
 use Rattle.graph_model.specs.Graph.{Graph as TaskGraph, IsLawful}
-use Rattle.core_state.specs.Asked.{IsCoreKey}
 use Rattle.core_state.specs.Counts.{count, hit}
 use Rattle.core_state.specs.Graph.{Graph, Setting}
 use Rattle.core_state.specs.Rooted.{graph_of, root_key}
@@ -66,16 +65,6 @@ module _ (g : TaskGraph) (e : Setting) (run : IsRunOf g e) where
   key_of_place k j low = subst (λ ks. Contains ks k) (sym keys_are)
       (⊎_elim (λ root. (0, omega arith, sym root.0)) (λ task. let has = task.0.1 in (suc has.0, (let inside = has.1 in omega (arith, inside)), has.2))
       (place_of_key root_key g run.outcome k j (subst (λ (r : Graph). j < r.places k) graph_is low)))
-
-  pub is_core_key : (k : ℕ) → Contains e.keys k → IsCoreKey g k
-  is_core_key k has = by (subst (λ ks. Contains ks k) keys_are has)
-    where
-      by : Contains (root_key ∷ g.keys) k → IsCoreKey g k
-      by z = at z.0 z.1 z.2
-        where
-          at : (i : ℕ) → i < length (root_key ∷ g.keys) → slice_index_or (root_key ∷ g.keys) i k ≡ k → IsCoreKey g k
-          at zero low is = inl (sym is)
-          at (suc i) low is = inr (i, omega (arith, low), is)
 
   pub places_are : sum_by e.graph.places e.keys ≡ all_places g + 1
   places_are = let a = ap (λ (r : Graph). sum_by r.places e.keys) graph_is in let b = ap (sum_by (graph_of g run.outcome).places) keys_are in

@@ -1,18 +1,30 @@
 -- A view in which a result was made owes and holds what it did.
 use Rattle.std.proofs.Common.{◌≡◌, ℕ, Bool, true, ◌∷◌, List, arith, refl, ap}
-use Rattle.core_state.specs.Counts.{hit, items}
+use Rattle.core_state.specs.Counts.{hit, items, begun, noted, owed}
 use Rattle.core_state.specs.Effects.{after_computed}
 use Rattle.core_state.specs.Lines.{Line, counted, flat, of}
-use Rattle.core_state.specs.Tests.{carries, is_owed}
+use Rattle.core_state.specs.Tests.{carries, is_owed, is_closed, is_created, is_spent}
 use Rattle.core_state.specs.declared.job.Job.{Job}
-use Rattle.core_state.specs.declared.job.Job.TheVariants as job
 use Rattle.core_state.specs.declared.views.Item.{Item}
-use Rattle.core_state.specs.declared.views.Item.TheVariants as item
 use Rattle.core_state.specs.declared.views.View.{View}
 use Rattle.core_state.proofs.Base.Counting.{bump_is}
 use Rattle.core_state.proofs.Lines.After.{computed_lines}
 use Rattle.core_state.proofs.Lines.Counts.{items_counted}
-use Rattle.run_bounds.proofs.Posted.{IsReady}
+use Rattle.core_state.specs.declared.job.Job.TheVariants.{Explore, Compute}
+use Rattle.core_state.specs.declared.job.Job.TheVariants as job
+use Rattle.core_state.specs.declared.views.Item.TheVariants as item
+
+-- a view that is ready for a step: the same, or with a result that was made
+pub record IsReady (v u : View) : Type 0 where
+  pub same_owed : (i : Job) (k l : ℕ) → owed i k l u ≡ owed i k l v
+  pub same_begun : (i : Job) (k l : ℕ) → begun i k l u ≡ begun i k l v
+  pub same_created : (k : ℕ) → noted (is_created k) u ≡ noted (is_created k) v
+  pub same_spent : (k l j : ℕ) → noted (is_spent k l j) u ≡ noted (is_spent k l j) v
+  pub same_closed : (k l w : ℕ) → noted (is_closed k l w) u ≡ noted (is_closed k l w) v
+  pub same_known : u.known ≡ v.known
+
+pub ready_same : (v : View) → IsReady v v
+ready_same v = record { same_owed = λ i k l. refl; same_begun = λ i k l. refl; same_created = λ k. refl; same_spent = λ k l j. refl; same_closed = λ k l w. refl; same_known = refl }
 
 -- the item carries the same job once its result was made
 carries_made : (i : Job) (a m k l read : ℕ) (loaded made : Bool) → carries i a m (item.Compute k l loaded read true) ≡ carries i a m (item.Compute k l loaded read made)

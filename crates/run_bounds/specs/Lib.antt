@@ -1,6 +1,5 @@
 pub mod Budgets
-pub mod Calm
 pub mod Hinting
-pub mod Ledger
+pub mod Doing
 pub mod Storm
 pub mod Struck

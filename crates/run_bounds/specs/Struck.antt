@@ -18,6 +18,7 @@ use Rattle.core_state.specs.declared.job.Job.TheVariants as job
 use Rattle.core_state.specs.declared.views.Item.TheVariants as line
 use Rattle.core_state.specs.declared.views.View.{View}
 use Rattle.core_state.specs.declared.words.NotifyWord.{NotifyWord}
+use Rattle.core_steps.specs.Table.{Plain, core_by}
 use Rattle.compute_notify.specs.Eventing.{item_event, item_hints, item_prepared}
 use Rattle.compute_notify.specs.Resting.{FallsGood, LeavesAbove, LetsFall}
 use Rattle.compute_notify.specs.Striking.{strike_left}
@@ -27,9 +28,13 @@ use Rattle.compute_notify.specs.declared.item.Item.{Item}
 use Rattle.compute_notify.specs.declared.item.Item.TheVariants as item
 use Rattle.compute_notify.specs.declared.task.Task.{Task}
 use Rattle.run_bounds.specs.Hinting.{HasHints}
-use Rattle.run_bounds.specs.Ledger.{Doing, asked_hints, asking_rest, fresh_hints}
-use Rattle.run_bounds.specs.Ledger.Doing.{asks, idle, works}
+use Rattle.run_bounds.specs.Doing.{Doing, asked_hints, asking_rest, fresh_hints}
+use Rattle.run_bounds.specs.Doing.Doing.{asks, idle, works}
 use Rattle.run_bounds.specs.Storm.{Lived, is_lived, job_cost, job_kind}
+
+-- what the parts of the invariant see of a plain table
+abbrev pub core_in : Plain → Core
+core_in q = core_by q.shape q.words q.blocks q.views
 
 -- between any two steps
 pub record IsLone (e : Setting) (s : Core) (v : View) : Type 0 where

@@ -1,10 +1,9 @@
 -- Why a run ended without the value, from the laws of its closed table.
-use Rattle.std.proofs.Common.{◌≡◌, ◌≢◌, ◌∙◌, ℕ, ℤ, Bool, true, false, cond, eqb, List, Option, Some, None, ap, subst, sym, refl, arith}
+use Rattle.std.proofs.Common.{◌≡◌, ◌≢◌, ◌∙◌, ℕ, ℤ, ◌<◌, ◌≤◌, Bool, true, false, cond, eqb, List, ◌++◌, Option, Some, None, ap, subst, sym, refl, arith}
 use Rattle.std.proofs.lemmas.Bool.{eq-eqb, eqb-true}
 use Rattle.graph_model.specs.Graph.{Graph as TaskGraph}
 use Rattle.graph_model.specs.Serial.{Outcome, serial}
 use Rattle.graph_model.specs.declared.plan.Strike.{Strike}
-use Rattle.graph_model.specs.declared.key.Key.{Key}
 use Rattle.graph_model.specs.declared.record.Cause.{Cause}
 use Rattle.graph_model.specs.declared.record.Record.{Record}
 use Rattle.core_state.specs.Counts.{count}
@@ -15,7 +14,7 @@ use Rattle.core_laws.specs.Lists.{RootReplaced, SuspectShown}
 use Rattle.worker_pool.proofs.Closing.{same_computed}
 use Rattle.worker_pool.specs.Ends.{EndTells, IsFinished, IsNotShort, IsSpent, NoneMissing}
 use Rattle.worker_pool.specs.Ends.IsSpent.{of_root, of_task}
-use Rattle.worker_pool.specs.Closing.{ClosedTells, EndedBy, IsQuietStop, SpentBy, StopShown, WithRoot, is_whole}
+use Rattle.worker_pool.specs.Closing.{ClosedTells, EndedBy, IsQuietStop, LeavesPending, SpentBy, StopShown, WithRoot, is_whole}
 use Rattle.worker_pool.specs.Closing.WithRoot.{all, refused}
 use Rattle.worker_pool.specs.declared.end.Why.{Why}
 use Rattle.worker_pool.specs.declared.end.Why.TheVariants as why
@@ -98,16 +97,27 @@ module _ (g : Graph) (tasks root : List Record) (of_root : RootReplaced g root) 
   ended_computed sink stop.Over pending told records by none k l = with_computed (why.ScheduleShort pending) told records by none k l
   ended_computed sink (stop.Spent s) pending told records by none k l = spent_computed (eqb s.key.0 root_key) sink s told records by none k l
 
-spent_not_short : (k : Key) (l : ℕ) (c : Cause) (tasks root records : List Record) (told : Why) → WithRoot (why.LivesSpent k l c) tasks root told records → IsNotShort told
-spent_not_short k l c tasks root records told (all is are) = subst IsNotShort (sym is) tt
-spent_not_short k l c tasks root records told (refused is) = subst IsNotShort (sym is) tt
+-- What is told of turns that left something pending.
+module _ (x : Stop) (pending : ℕ) (tasks root : List Record) where
+  with_left : (reason told : Why) (records : List Record) → (records ≡ tasks ++ root → LeavesPending x pending tasks root reason records) → WithRoot reason tasks root told records → LeavesPending x pending tasks root told records
+  with_left reason told records by (all is are) = subst (λ w. LeavesPending x pending tasks root w records) (sym is) (by are)
+  with_left reason told records by (refused is) = subst (λ w. LeavesPending x pending tasks root w records) (sym is) tt
 
-spent_waits : (sink : ℕ) (s : Spent) (tasks root records : List Record) (told : Why) (b : Bool) → SpentBy b sink s tasks root told records → IsNotShort told
-spent_waits sink s tasks root records told true by = spent_not_short (record { 0 = sink }) s.life s.cause tasks root records told by
-spent_waits sink s tasks root records told false by = subst IsNotShort (sym by.0) tt
+  spent_left : (b : Bool) (sink : ℕ) (s : Spent) (told : Why) (records : List Record) → SpentBy b sink s tasks root told records → LeavesPending x pending tasks root told records
+  spent_left true sink s told records by = with_left (why.LivesSpent (record { 0 = sink }) s.life s.cause) told records (λ are. tt) by
+  spent_left false sink s told records by = subst (λ w. LeavesPending x pending tasks root w records) (sym by.0) tt
 
--- turns that ended of themselves with nothing pending were not cut short
-pub not_short : (sink : ℕ) (x : Stop) (pending : ℕ) (tasks root records : List Record) (told : Why) → IsQuietStop x pending → (x ≡ stop.Over → pending ≢ 0) → EndedBy sink x pending tasks root told records → IsNotShort told
-not_short sink stop.OutOfMemory pending tasks root records told quiet some by = subst IsNotShort (sym by) tt
-not_short sink stop.Over pending tasks root records told quiet some by = absurd (some refl quiet)
-not_short sink (stop.Spent s) pending tasks root records told quiet some by = spent_waits sink s tasks root records told (eqb s.key.0 root_key) by
+pub left_pending : (sink : ℕ) (x : Stop) (pending : ℕ) (tasks root : List Record) (told : Why) (records : List Record) → (x ≡ stop.Over → pending ≢ 0) → EndedBy sink x pending tasks root told records → LeavesPending x pending tasks root told records
+left_pending sink stop.OutOfMemory pending tasks root told records some by = subst (λ w. LeavesPending stop.OutOfMemory pending tasks root w records) (sym by) tt
+left_pending sink stop.Over pending tasks root told records some by = with_left stop.Over pending tasks root (why.ScheduleShort pending) told records (λ are. (refl, some refl, are)) by
+left_pending sink (stop.Spent s) pending tasks root told records some by = spent_left (stop.Spent s) pending tasks root (eqb s.key.0 root_key) sink s told records by
+
+-- where the turns were enough nothing was left pending
+pub enough_made : (x : Stop) (pending : ℕ) (tasks root : List Record) (enough turns : ℕ) (told : Why) (records : List Record) → (x ≡ stop.Over → pending ≢ 0 → records ≡ tasks ++ root → turns < enough) → LeavesPending x pending tasks root told records → enough ≤ turns → IsNotShort told
+enough_made x pending tasks root enough turns why.OutOfMemory records few left made = tt
+enough_made x pending tasks root enough turns (why.LivesSpent k l c) records few left made = tt
+enough_made x pending tasks root enough turns (why.ScheduleShort n) records few left made = absurd (let a = few left.0 left.1 left.2 in omega (arith, a, made))
+
+-- nor where nothing is pending
+pub not_short : (x : Stop) (pending : ℕ) (tasks root : List Record) (told : Why) (records : List Record) → IsQuietStop x pending → LeavesPending x pending tasks root told records → IsNotShort told
+not_short x pending tasks root told records quiet left = enough_made x pending tasks root 0 0 told records (λ over some are. absurd (some (subst (λ s. IsQuietStop s pending) over quiet))) left (omega arith)

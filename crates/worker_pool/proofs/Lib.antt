@@ -1,7 +1,6 @@
 pub mod Assigning
 pub mod Begun
 pub mod Calls
-pub mod Calming
 pub mod Closing
 pub mod Completing
 pub mod Ends
@@ -11,6 +10,7 @@ pub mod Idling
 pub mod Landing
 pub mod NoStrike
 pub mod OwnStrikes
+pub mod Paying
 pub mod Places
 pub mod Pooling
 pub mod Settings

@@ -66,8 +66,8 @@ pub record Lent (p lent left back : Plain) (i j k : ℕ) : Type 0 where
   pub before : view_at lent j ≡ view_in p.views i
   pub after : view_at left k ≡ view_in back.views i
 
-pub lent_once : (p lent left back : Plain) (i j k n m : ℕ) → lent ≡ p → j ≡ i → back ≡ left → ◌≡◌ {A = List ℕ} (m ∷ k ∷ []) (n ∷ j ∷ []) → set left.views k blank ≡ set lent.views j blank → Lent p lent left back i j k
-lent_once p lent left back i j k n m lent_is seat_is back_is same_lender same_others = record {
+pub lent_once : (p lent left back : Plain) (i j k n m : ℕ) (found kept : List ℕ) → lent ≡ p → j ≡ i → back ≡ left → ◌≡◌ {A = List ℕ} (m ∷ k ∷ kept) (n ∷ j ∷ found) → set left.views k blank ≡ set lent.views j blank → Lent p lent left back i j k
+lent_once p lent left back i j k n m found kept lent_is seat_is back_is same_lender same_others = record {
   others = others_stay p.views back.views i k same_seat
       (ap (λ (x : Plain). set x.views k blank) back_is ∙ same_others ∙ ap (λ (x : Plain). set x.views j blank) lent_is ∙ ap (λ (h : ℕ). set p.views h blank) seat_is);
   before = seated p lent i j lent_is seat_is;

@@ -1,15 +1,17 @@
 -- The calls of all kernels against the records of all views.
-use Rattle.std.proofs.Common.{◌≡◌, ◌≢◌, ◌∙◌, ℕ, ℤ, zero, suc, ◌+◌, ◌<◌, List, [], ◌∷◌, ◌++◌, Option, None, Result, Ok, Err, length, slice_index_or, subst, sym, refl, arith}
+use Rattle.std.proofs.Common.{◌≡◌, ◌≢◌, ◌∙◌, ℕ, ℤ, zero, suc, ◌+◌, ◌<◌, Bool, true, false, cond, eqb, ◌&&◌, List, [], ◌∷◌, ◌++◌, Option, None, Result, Ok, Err, length, slice_index_or, ap, subst, sym, refl, arith}
 use mathlib.Core.Logic.{dite}
 use native.Mathlib.Decide.{ℕ_discrete}
 use Rattle.graph_model.specs.Notes.{Note}
 use Rattle.graph_model.specs.declared.record.Record.{Record}
-use Rattle.core_state.specs.Counts.{count, noted, total_of}
-use Rattle.core_state.specs.Tests.{is_computed, two}
+use Rattle.graph_model.specs.declared.record.Record.TheVariants as record_of
+use Rattle.core_state.specs.Counts.{bump, count, noted, total_of}
+use Rattle.core_state.specs.Tests.{is_any_replaced, is_computed, two}
 use Rattle.core_state.specs.Rooted.{root_key}
 use Rattle.core_state.specs.declared.views.View.{View}
 use Rattle.core_state.proofs.Seats.View.{count_both}
-use Rattle.core_steps.specs.Table.{view_in}
+use Rattle.core_state.proofs.Base.Sums.{total_add, total_below}
+use Rattle.core_steps.specs.Table.{is_kept, is_root_replaced, view_in}
 use Rattle.core_state.specs.Graph.{Setting}
 use Rattle.core_state.specs.declared.block.BlockCells.{BlockCells}
 use Rattle.core_laws.specs.Lists.{AreOfTasks}
@@ -97,6 +99,34 @@ pub all_recorded : (e : Setting) (vs : List View) (ws : List ℕ) (bs : List (Op
 all_recorded e vs ws bs tasks root records before now ended at_root of_tasks many called same = called_as_recorded before now vs records many called
     (λ k l ne. kept_computed e.graph.root k l (λ is. ne (is ∙ at_root)) ended.views (count (is_computed k l) records) (same k l ∙ ended.closing.others (is_computed k l)) ∙ ended.all (noted (is_computed k l)) (noted_adds (is_computed k l)))
     (λ l. subst (λ r. count (is_computed r l) records ≡ 0) at_root (same e.graph.root l ∙ no_root_computed e.graph l tasks of_tasks))
+
+-- each replacement is a record of tasks or one of the root's
+split_replaced : (root : ℕ) (xs : List Record) → count is_any_replaced xs ≡ count (λ x. is_any_replaced x && is_kept root x) xs + count (λ x. is_any_replaced x && is_root_replaced root x) xs
+split_replaced root [] = refl
+split_replaced root (x ∷ xs) = by x (split_replaced root xs)
+  where
+    apart : (b : Bool) (n m : ℕ) → bump true (n + m) ≡ bump (true && cond b false true) n + bump (true && (b && true)) m
+    apart true n m = omega arith
+    apart false n m = omega arith
+
+    by : (x : Record) → count is_any_replaced xs ≡ count (λ x. is_any_replaced x && is_kept root x) xs + count (λ x. is_any_replaced x && is_root_replaced root x) xs
+        → count is_any_replaced (x ∷ xs) ≡ count (λ x. is_any_replaced x && is_kept root x) (x ∷ xs) + count (λ x. is_any_replaced x && is_root_replaced root x) (x ∷ xs)
+    by (record_of.Replaced key life c) rest = ap (bump true) rest ∙ apart (eqb root key.0) _ _
+    by (record_of.Created key) rest = rest
+    by (record_of.Spent key life place) rest = rest
+    by (record_of.Computed key life) rest = rest
+    by (record_of.Written key life block version) rest = rest
+    by (record_of.Closed key life word) rest = rest
+    by (record_of.Struck key life h) rest = rest
+
+-- The records of a closed table have the replacements of all its workers' views.
+pub replaced_recorded : (e : Setting) (vs : List View) (ws : List ℕ) (bs : List (Option BlockCells)) (tasks root : List Record) → HaveEnded e vs ws bs tasks root → count is_any_replaced (tasks ++ root) ≡ total_of vs (noted is_any_replaced)
+replaced_recorded e vs ws bs tasks root ended =
+    let kept : View → ℕ = noted (λ x. is_any_replaced x && is_kept e.graph.root x) in let own : View → ℕ = noted (λ x. is_any_replaced x && is_root_replaced e.graph.root x) in
+    let a = count_both is_any_replaced tasks root in let b = ended.closing.others is_any_replaced in let c = ended.closing.replaced is_any_replaced in let d = total_add ended.views kept own in
+    let low = total_below ended.views (λ v. kept v + own v) (noted is_any_replaced) (λ v. let s = split_replaced e.graph.root v.records in omega (arith, s)) in
+    let high = total_below ended.views (noted is_any_replaced) (λ v. kept v + own v) (λ v. let s = split_replaced e.graph.root v.records in omega (arith, s)) in
+    let all = ended.all (noted is_any_replaced) (noted_adds is_any_replaced) in omega (arith, a, b, c, d, low, high, all)
 
 -- the kernels' calls of a run, by what it came to
 pub run_calls : (before now : List (Option (List Note))) (value : Result (List ℤ) Why) (records : List Record) → OnlyCalled before now → (HasAllRecords value → CalledAsRecorded before now records) → RunCalls before now value records

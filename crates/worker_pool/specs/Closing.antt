@@ -1,5 +1,5 @@
 -- What a closed table tells, and what a run makes of it.
-use Rattle.std.specs.Prelude.{◌≡◌, ℕ, ℤ, Bool, true, false, eqb, List, ◌++◌, Option, Some}
+use Rattle.std.specs.Prelude.{◌≡◌, ◌≢◌, ℕ, ℤ, Bool, true, false, eqb, List, ◌++◌, Option, Some}
 use Rattle.graph_model.specs.declared.record.Record.{Record}
 use Rattle.core_state.specs.Counts.{count}
 use Rattle.core_state.specs.Graph.{Setting, greatest_life}
@@ -48,6 +48,12 @@ abbrev pub is_whole : Stop → ℕ → Bool
 is_whole stop.Over pending = eqb pending 0
 is_whole stop.OutOfMemory pending = false
 is_whole (stop.Spent s) pending = false
+
+-- with something left pending the turns ended of themselves, and all records are told
+abbrev pub LeavesPending : Stop → ℕ → List Record → List Record → Why → List Record → Type 0
+LeavesPending x pending tasks root why.OutOfMemory records = Unit {0}
+LeavesPending x pending tasks root (why.LivesSpent k l c) records = Unit {0}
+LeavesPending x pending tasks root (why.ScheduleShort left) records = (x ≡ stop.Over) × (pending ≢ 0) × (records ≡ tasks ++ root)
 
 -- where the turns ended of themselves nothing is pending
 abbrev pub IsQuietStop : Stop → ℕ → Type 0

@@ -1,9 +1,9 @@
 pub mod Calling
-pub mod Calming
 pub mod Closing
 pub mod Completing
 pub mod Ends
 pub mod Joining
+pub mod Paying
 pub mod Pooling
 pub mod Threads
 pub mod Working

@@ -1,18 +1,16 @@
 -- The workers of a run at one table, between any two turns.
 use Rattle.std.specs.Prelude.{◌≡◌, ◌≢◌, ℕ, ◌<◌, ℤ, List, [], Option, Some, None, All, length, slice_get, slice_index_or}
-use Rattle.graph_model.specs.Graph.{Graph as TaskGraph}
+use Rattle.graph_model.specs.Graph.{Graph as TaskGraph, IsLawful}
 use Rattle.graph_model.specs.Notes.{Note}
 use Rattle.graph_model.specs.Serial.{Outcome}
 use Rattle.graph_model.specs.declared.record.Cause.{Cause}
 use Rattle.core_state.specs.Counts.{items}
 use Rattle.core_state.specs.Tests.{is_suspect_for}
-use Rattle.core_state.specs.Graph.{Setting, greatest_life}
+use Rattle.core_state.specs.Graph.{Setting, Sound, greatest_life}
 use Rattle.core_state.specs.declared.views.View.{View}
 use Rattle.core_steps.specs.Table.{view_in}
-use Rattle.core_state.specs.Graph.{Sound}
 use Rattle.core_state.specs.Rooted.{root_key, setting_of}
 use Rattle.core_state.specs.declared.job.Job.TheVariants as job
-use Rattle.graph_model.specs.Graph.{IsLawful}
 use Rattle.graph_model.specs.declared.plan.Strike.{Strike}
 use Rattle.compute_notify.specs.Items.{job_item}
 use Rattle.compute_notify.specs.Rooms.{HasRoom}

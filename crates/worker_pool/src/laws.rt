@@ -6,8 +6,8 @@ ghost use Rattle.core_state.specs.Rooted.{setting_of};
 ghost use Rattle.core_state.specs.declared.views.View.{View};
 ghost use Rattle.graph_model.specs.Serial.{Outcome};
 ghost use Rattle.graph_model.specs.declared.plan.Strike.{Strike};
-ghost use Rattle.worker_pool.specs.Closing.{ClosedTells, EndedBy, IsQuietStop, StopShown, WithRoot, is_whole};
-ghost use Rattle.worker_pool.specs.Ends.{HasAllRecords, IsNotShort, RunTells};
+ghost use Rattle.worker_pool.specs.Closing.{ClosedTells, EndedBy, LeavesPending, StopShown, WithRoot, is_whole};
+ghost use Rattle.worker_pool.specs.Ends.{HasAllRecords, RunTells};
 ghost use Rattle.worker_pool.specs.Joining.{HaveEnded};
 ghost use Rattle.worker_pool.specs.Pooling.{StopTells};
 
@@ -99,7 +99,7 @@ pub(crate) fn ended<C: Course, G: TaskGraph>(
 ) -> (Result<Cells, Why>, Vec<Record>)
     requires { StopShown C.setting closed.records.items closed.root_replaced.items stop }
     ensures tells { (outcome : Outcome) (strikes : List Strike) (lives : ℕ) → C.setting ≡ setting_of (G.graph graph.now) outcome strikes lives → RunTells (G.graph graph.now) outcome strikes lives result.0 result.1.items }
-    ensures waits { IsQuietStop stop closed.pending → IfErr result.0 IsNotShort }
+    ensures short { IfErr result.0 (λ why. LeavesPending stop closed.pending closed.records.items closed.root_replaced.items why result.1.items) }
     ensures computed { HasAllRecords result.0 → (k l : ℕ) → count (is_computed k l) result.1.items ≡ count (is_computed k l) closed.records.items }
 {
     laws_of(&closed);

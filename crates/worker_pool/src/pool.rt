@@ -1,17 +1,19 @@
 //! The virtual workers at one table, and their turns.
-ghost use Rattle.std.specs.Prelude.{◌≡◌, ◌≢◌, ◌%◌, ◌<◌, ◌≤◌, All, IfOk, IfSome, List, OnOk, Option, Some, [], length, map, slice_get, slice_index, true};
+ghost use Rattle.std.specs.Prelude.{◌≡◌, ◌≢◌, ◌%◌, ◌<◌, ◌≤◌, All, IfOk, IfSome, List, None, Option, Some, [], length, map, slice_get, slice_index, true};
 ghost use Rattle.recovery.specs.Memory.{SameResults};
 ghost use Rattle.compute_notify.specs.Running.{Runs};
 ghost use Rattle.core_state.specs.Graph.{Setting};
 ghost use Rattle.core_state.specs.declared.views.View.{View};
 ghost use Rattle.core_state.specs.Rooted.{root_key};
-ghost use Rattle.core_steps.specs.Table.{IsSound, view_in};
+ghost use Rattle.core_state.specs.Counts.{count};
+ghost use Rattle.core_state.specs.Tests.{is_any_replaced};
+ghost use Rattle.core_steps.specs.Table.{view_at, view_in};
 ghost use Rattle.graph_model.specs.Graph.{Graph};
 ghost use Rattle.graph_model.specs.Notes.{Note};
-ghost use Rattle.run_bounds.specs.Budgets.{IsCalmRun};
+ghost use Rattle.graph_model.specs.declared.plan.Strike.{Strike};
+ghost use Rattle.run_bounds.specs.Storm.{IsStormRun};
 ghost use Rattle.worker_pool.specs.Calling.{AreAlike, SameKernels};
-ghost use Rattle.worker_pool.specs.Calming.{BeginsCalm, HasMadeTurns, PaysTurn, TakesOwn};
-ghost use Rattle.worker_pool.specs.Closing.{IsQuietStop};
+ghost use Rattle.worker_pool.specs.Paying.{BeginsAlone, IsPaid, PaysTurn, TakesOwn};
 ghost use Rattle.worker_pool.specs.Joining.{HaveEnded};
 ghost use Rattle.worker_pool.specs.Pooling.{AreNew, IsRun, KernelsCalled, KernelsMake, OthersStay, StopTells, WorkersHold};
 ghost use Rattle.worker_pool.specs.Working.{SpentShown, is_idle};
@@ -99,7 +101,7 @@ impl<C: Course> Pool<C> {
         ensures posted { IfOk result (λ pool. pool.posted ≡ []) }
         ensures count { IfOk result (λ pool. length pool.workers.items ≡ workers) }
         ensures calls { IfOk result (λ pool. (before : List (Option (List Note))) → length before ≡ workers → KernelsCalled before before pool.table.views) }
-        ensures calm { IfOk result (λ pool. workers ≡ 1 → IsCalmRun (G.graph graph.now) C.setting → IsSound C.setting pool.table → HasMadeTurns C.setting pool.table pool.workers.items 0) }
+        ensures begins { IfOk result (λ pool. (strikes : List Strike) → workers ≡ 1 → IsStormRun (G.graph graph.now) strikes C.setting → BeginsAlone (G.graph graph.now) strikes C.setting pool.table pool.workers.items) }
     {
         let layout = Layout::of(alloc, graph)?;
         let row = root_row(layout.rows);
@@ -120,7 +122,7 @@ impl<C: Course> Pool<C> {
         ensures results { SameResults (view_in self.old.table.views worker) (view_in self.new.table.views worker) }
         ensures others { OthersStay self.old.table.views self.new.table.views worker }
         ensures posted { self.new.posted ≡ self.old.posted }
-        ensures calm { (g : Graph) → WorkersHold g C.setting self.old.table.views self.old.workers.items → PaysTurn g C.setting self.old.table self.old.workers.items self.new.table self.new.workers.items }
+        ensures pays { (g : Graph) (strikes : List Strike) → WorkersHold g C.setting self.old.table.views self.old.workers.items → PaysTurn g C.setting strikes self.old.table self.old.workers.items self.new.table self.new.workers.items }
     {
         let at = worker as usize;
         if let Some(row) = hint_for(&mut self.workers, at) {
@@ -151,7 +153,7 @@ impl<C: Course> Pool<C> {
         ensures outcome { KernelsMake (G.graph terms.now.graph.now) C.setting Ke.outcome Ke.fits kernels.new.items }
         ensures kernels { (before : List Ke) → SameKernels Ke.outcome Ke.fits before kernels.old.items → SameKernels Ke.outcome Ke.fits before kernels.new.items }
         ensures count { length self.new.table.views ≡ length self.old.table.views }
-        ensures calm { OnOk result (terms.now.plan.now ≡ [] → PaysTurn (G.graph terms.now.graph.now) C.setting self.old.table self.old.workers.items self.new.table self.new.workers.items) }
+        ensures pays { IfOk result (λ spent. spent ≡ None → PaysTurn (G.graph terms.now.graph.now) C.setting terms.now.plan.now self.old.table self.old.workers.items self.new.table self.new.workers.items) }
     {
         let at = worker as usize;
         if self.workers[at].is_idle() {
@@ -194,15 +196,16 @@ impl<C: Course> Pool<C> {
         ensures calls { (before : List (Option (List Note))) → KernelsCalled before (map Ke.calls kernels.old.items) self.old.table.views → KernelsCalled before (map Ke.calls kernels.new.items) self.new.table.views }
         ensures kernels { SameKernels Ke.outcome Ke.fits kernels.old.items kernels.new.items }
         ensures count { length self.new.table.views ≡ length self.old.table.views }
-        ensures calm { BeginsCalm (G.graph terms.now.graph.now) terms.now.plan.now C.setting self.old.table self.old.workers.items turns → IsQuietStop result (slice_index self.new.table.words 0) }
+        ensures paid { BeginsAlone (G.graph terms.now.graph.now) terms.now.plan.now C.setting self.old.table self.old.workers.items → result ≡ Stop.Over → slice_index self.new.table.words 0 ≢ 0 → IsPaid (G.graph terms.now.graph.now) terms.now.plan.now (length schedule.now) turns (count is_any_replaced (view_at self.new.table 0).records) }
     {
         for i in 0..turns {
-            if self.table.pending() == 0 {
-                return Stop::Over;
-            }
             let worker = schedule[(i % schedule.len() as u64) as usize];
             match self.turn(alloc, terms, kernels, worker) {
-                Ok(None) => {}
+                Ok(None) => {
+                    if self.table.pending() == 0 {
+                        return Stop::Over;
+                    }
+                }
                 Ok(Some(spent)) => return Stop::Spent { spent },
                 Err(_) => {
                     self.stop(worker);

@@ -1,9 +1,10 @@
 //! A worker: a task or a hint in service, and hints.
-ghost use Rattle.std.specs.Prelude.{◌≡◌, ◌≢◌, ◌+◌, ◌<◌, ◌≤◌, All, IfOk, IfSome, List, MatchOption, OnErr, OnOk, Option, Some, [], false, length, true, ℕ};
+ghost use Rattle.std.specs.Prelude.{◌≡◌, ◌≢◌, ◌+◌, ◌<◌, ◌≤◌, All, IfOk, IfSome, List, MatchOption, None, OnErr, OnOk, Option, Some, [], false, length, true, ℕ};
 ghost use Rattle.std.specs.VecDeque.{deque_capacity, deque_len};
 ghost use Rattle.compute_notify.specs.Eventing.{item_hints};
 ghost use Rattle.compute_notify.specs.Items.{job_item};
 ghost use Rattle.compute_notify.specs.Rooms.{HasRoom};
+ghost use Rattle.compute_notify.specs.Resting.{suspect_rest};
 ghost use Rattle.compute_notify.specs.Running.{Makes, Runs, SameKernel};
 ghost use Rattle.compute_notify.specs.Tasks.{HasSpace, Holds, IsNew, IsNext, NewCalls, TaskScratch, TaskTells, task_items};
 ghost use Rattle.compute_notify.specs.declared.item.Item.{Item};
@@ -12,12 +13,12 @@ ghost use Rattle.core_state.specs.Graph.{Setting};
 ghost use Rattle.core_state.specs.declared.views.View.{View};
 ghost use Rattle.graph_model.specs.Graph.{Graph};
 ghost use Rattle.graph_model.specs.Notes.{Note};
+ghost use Rattle.graph_model.specs.declared.plan.Strike.{Strike};
 ghost use Rattle.recovery.specs.Memory.{KnowsKey, SameResults};
-ghost use Rattle.run_bounds.specs.Budgets.{IsCalmRun};
 ghost use Rattle.run_bounds.specs.Hinting.{HintTaken, HintsPut};
-ghost use Rattle.run_bounds.specs.Ledger.Doing.{asks, idle};
+ghost use Rattle.run_bounds.specs.Doing.Doing.{asks, idle};
 ghost use Rattle.worker_pool.specs.Calling.{HasCalled};
-ghost use Rattle.worker_pool.specs.Calming.{GoesOn, TurnsTask, doing_of};
+ghost use Rattle.worker_pool.specs.Paying.{GoesOn, TurnsTask, doing_of};
 ghost use Rattle.worker_pool.specs.Working.{IsIdle, IsNewWorker, KeepsTable, NamesTasks, SpentShown, WorkHolds, WorkScratch, WorkerHolds, is_idle, spent_of};
 
 use compute_notify::{Run, Scratch, Task};
@@ -132,7 +133,7 @@ fn serve<T: Steps>(
     ensures err { OnErr result (T.view steps.new ≡ T.view steps.old) }
     ensures results { SameResults (T.view steps.old) (T.view steps.new) }
     ensures table { KeepsTable T.setting T.lender T.others steps.old steps.new }
-    ensures calm { (g : Graph) (hints : List ℕ) → IsCalmRun g (T.setting steps.old) → IfOk result (λ work. GoesOn T.view T.happened (T.setting steps.old) (asks row key.0 job) hints steps.old (doing_of work) hints steps.new) }
+    ensures pays { (g : Graph) (p : List Strike) (lives most : ℕ) (hints : List ℕ) → Runs g p lives (T.setting steps.old) → IfOk result (λ work. GoesOn T.view T.happened T.KeyWords.made T.lender (T.setting steps.old) p most (asks row key.0 job) hints steps.old (doing_of work) hints steps.new) }
 {
     steps.reserve(1)?;
     let life = steps.take(row, job);
@@ -176,7 +177,7 @@ fn turn_of<T: Steps, G: TaskGraph, Ke: Kernel>(
     ensures kernel { SameKernel (Ke.outcome kernel.old) (Ke.outcome kernel.new) (Ke.fits kernel.old) (Ke.fits kernel.new) }
     ensures posted { (left : List Item) (x : Item) → IsNext (T.setting steps.old).graph terms.now.plan.now (task_items task.old) left (Some x) → posted.new ≡ item_hints x posted.old }
     ensures table { KeepsTable T.setting T.lender T.others steps.old steps.new }
-    ensures turned { TurnsTask T.view T.happened (T.setting steps.old) terms.now.plan.now steps.old steps.new task.old task.new posted.new result }
+    ensures turned { TurnsTask T.view T.happened T.KeyWords.made T.lender (T.setting steps.old) terms.now.plan.now steps.old steps.new task.old task.new posted.new result }
 {
     let mut run = Run {
         graph: terms.graph,
@@ -214,7 +215,7 @@ fn work_on<T: Steps, G: TaskGraph, Ke: Kernel>(
     ensures posted { All (λ row. row < (T.setting steps.old).shape.rows) posted.new }
     ensures few { length posted.new ≤ 2 }
     ensures table { KeepsTable T.setting T.lender T.others steps.old steps.new }
-    ensures turned { IfOk result (λ turn. TurnsTask T.view T.happened (T.setting steps.old) terms.now.plan.now steps.old steps.new task.old task.new posted.new turn) }
+    ensures turned { IfOk result (λ turn. TurnsTask T.view T.happened T.KeyWords.made T.lender (T.setting steps.old) terms.now.plan.now steps.old steps.new task.old task.new posted.new turn) }
 {
     steps.reserve(ROOM)?;
     task.reserve()?;
@@ -296,7 +297,7 @@ impl Worker {
         ensures holds { (g : Graph) → NamesTasks g (T.setting steps.old) → WorkerHolds g (T.setting steps.old) (T.view steps.old) self.old → WorkerHolds g (T.setting steps.old) (T.view steps.new) self.new }
         ensures results { SameResults (T.view steps.old) (T.view steps.new) }
         ensures table { KeepsTable T.setting T.lender T.others steps.old steps.new }
-        ensures calm { (hints : List ℕ) → HintTaken hints row self.old.hints.items → GoesOn T.view T.happened (T.setting steps.old) idle hints steps.old (doing_of self.new.work) self.new.hints.items steps.new }
+        ensures pays { (p : List Strike) (most : ℕ) (hints : List ℕ) → IsIdle (T.view steps.old) → HintTaken hints row self.old.hints.items → GoesOn T.view T.happened T.KeyWords.made T.lender (T.setting steps.old) p most idle hints steps.old (doing_of self.new.work) self.new.hints.items steps.new }
     {
         if let Seen::Holds { key } = steps.look(row) {
             self.work = Work::Serve {
@@ -326,7 +327,7 @@ impl Worker {
         ensures kernel { SameKernel (Ke.outcome kernel.old) (Ke.outcome kernel.new) (Ke.fits kernel.old) (Ke.fits kernel.new) }
         ensures posted { posted.new ≡ [] }
         ensures table { KeepsTable T.setting T.lender T.others steps.old steps.new }
-        ensures calm { OnOk result (terms.now.plan.now ≡ [] → IsCalmRun (G.graph terms.now.graph.now) (T.setting steps.old) → is_idle self.old.work ≡ false → GoesOn T.view T.happened (T.setting steps.old) (doing_of self.old.work) self.old.hints.items steps.old (doing_of self.new.work) self.new.hints.items steps.new) }
+        ensures pays { IfOk result (λ spent. spent ≡ None → (most : ℕ) → ((k : ℕ) → suspect_rest (T.setting steps.old) k + 1 ≤ most) → is_idle self.old.work ≡ false → GoesOn T.view T.happened T.KeyWords.made T.lender (T.setting steps.old) terms.now.plan.now most (doing_of self.old.work) self.old.hints.items steps.old (doing_of self.new.work) self.new.hints.items steps.new) }
     {
         match &mut self.work {
             Work::Idle => Ok(None),

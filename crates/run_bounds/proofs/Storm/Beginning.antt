@@ -22,7 +22,7 @@ use Rattle.compute_notify.specs.Running.{Runs}
 use Rattle.compute_notify.specs.Tasks.{IsNew}
 use Rattle.compute_notify.specs.declared.task.Task.{Task}
 use Rattle.compute_notify.proofs.JobRests.{new_few}
-use Rattle.run_bounds.specs.Ledger.Doing.{works}
+use Rattle.run_bounds.specs.Doing.Doing.{works}
 use Rattle.run_bounds.specs.Storm.{Lived, is_lived, job_cost}
 use Rattle.run_bounds.specs.Struck.{Charged, IsLone, lives_of}
 use Rattle.run_bounds.proofs.Hinting.{hints_none}

@@ -27,8 +27,8 @@ use Rattle.compute_notify.specs.declared.item.Item.TheVariants as item
 use Rattle.compute_notify.specs.declared.task.Task.{Task}
 use Rattle.compute_notify.proofs.Stacking.{next_alone}
 use Rattle.run_bounds.specs.Hinting.{HasHints, HintsPut}
-use Rattle.run_bounds.specs.Ledger.{asked_hints, fresh_hints}
-use Rattle.run_bounds.specs.Ledger.Doing.{works}
+use Rattle.run_bounds.specs.Doing.{asked_hints, fresh_hints}
+use Rattle.run_bounds.specs.Doing.Doing.{works}
 use Rattle.run_bounds.specs.Storm.{Lived}
 use Rattle.run_bounds.specs.Struck.{Charged, IsBlamed, IsLone, IsMade, IsRenewed, IsSeen, WasSeen, by_mark}
 use Rattle.run_bounds.proofs.Entered.{noted_grows}

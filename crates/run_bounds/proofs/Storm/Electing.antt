@@ -27,8 +27,8 @@ use Rattle.compute_notify.specs.declared.item.Item.{Item}
 use Rattle.compute_notify.specs.declared.item.Item.TheVariants as item
 use Rattle.compute_notify.specs.declared.task.Task.{Task}
 use Rattle.run_bounds.specs.Hinting.{HasHints, HintsPut}
-use Rattle.run_bounds.specs.Ledger.{asked_hints, fresh_hints}
-use Rattle.run_bounds.specs.Ledger.Doing.{works}
+use Rattle.run_bounds.specs.Doing.{asked_hints, fresh_hints}
+use Rattle.run_bounds.specs.Doing.Doing.{works}
 use Rattle.run_bounds.specs.Struck.{Charged, IsBlamed, IsLone, IsMade, IsRenewed, WasSeen}
 use Rattle.run_bounds.proofs.Entered.{noted_grows}
 use Rattle.run_bounds.proofs.Storm.Charging.{hinted_on, more_struck, seen_next}

@@ -29,14 +29,14 @@ use Rattle.core_state.proofs.Start.Asked.{reached_is_key}
 use Rattle.core_state.proofs.Start.Root.{by_none, which}
 use Rattle.compute_notify.specs.Resting.{suspect_rest}
 use Rattle.run_bounds.specs.Budgets.{IsRunOf, all_places, enough_turns}
-use Rattle.run_bounds.specs.Ledger.{Doing}
-use Rattle.run_bounds.specs.Ledger.Doing.{idle}
+use Rattle.run_bounds.specs.Doing.{Doing}
+use Rattle.run_bounds.specs.Doing.Doing.{idle}
 use Rattle.run_bounds.specs.Storm.{IsComeTo, IsStormRun, Lived, enough_turns_of, is_lived, job_cost, most_cost}
 use Rattle.run_bounds.specs.Struck.{Charged, IsLone, lives_of}
 use Rattle.run_bounds.proofs.Counting.{count_weaker, each_counted, length_sum}
 use Rattle.run_bounds.proofs.Edges.{ports_below_places}
-use Rattle.run_bounds.proofs.Ending.{none_posted, unhinted}
-use Rattle.run_bounds.proofs.Faultless.{unstruck}
+use Rattle.run_bounds.proofs.Hinting.{none_posted, unhinted}
+use Rattle.run_bounds.proofs.Unstruck.{unstruck}
 use Rattle.run_bounds.proofs.Keys.{key_of_place, keys_many, keys_once, places_are, rows_are}
 use Rattle.run_bounds.proofs.Pigeons.{met, pigeons}
 use Rattle.run_bounds.proofs.Storm.Costs.{jobs_few, lives_few, suspect_few}

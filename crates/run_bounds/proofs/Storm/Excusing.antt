@@ -29,9 +29,9 @@ use Rattle.compute_notify.specs.declared.item.Item.{Item}
 use Rattle.compute_notify.specs.declared.item.Item.TheVariants as item
 use Rattle.compute_notify.specs.declared.task.Task.{Task}
 use Rattle.run_bounds.specs.Hinting.{HintsPut}
-use Rattle.run_bounds.specs.Ledger.Doing.{works}
+use Rattle.run_bounds.specs.Doing.Doing.{works}
 use Rattle.run_bounds.specs.Struck.{Charged, IsBlamed, IsLone, IsMade}
-use Rattle.run_bounds.proofs.Excused.{cost_some}
+use Rattle.run_bounds.proofs.StepCosts.{cost_some}
 use Rattle.run_bounds.proofs.Storm.Charging.{falls_on, marks_on, misses_on, none_blamed, none_renewed, reads_on}
 use Rattle.run_bounds.proofs.Storm.Lone.{job_few, job_life, job_row, known_row}
 use Rattle.run_bounds.proofs.Storm.Marking.{IsSettled, new_descriptor, new_notify}

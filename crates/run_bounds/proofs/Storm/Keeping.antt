@@ -14,7 +14,7 @@ use Rattle.core_state.specs.declared.job.Job.TheVariants as job
 use Rattle.core_state.specs.declared.views.View.{View}
 use Rattle.core_state.proofs.Base.Counting.{bump_is, three_else, three_here}
 use Rattle.run_bounds.specs.Hinting.{HasHints}
-use Rattle.run_bounds.specs.Ledger.{Doing, asked_hints, fresh_hints}
+use Rattle.run_bounds.specs.Doing.{Doing, asked_hints, fresh_hints}
 use Rattle.run_bounds.specs.Storm.{Lived, is_lived, job_cost, job_kind}
 use Rattle.run_bounds.specs.Struck.{Charged, IsBlamed, IsRenewed, WasSeen, doing_left}
 use Rattle.run_bounds.proofs.Storm.Marking.{IsSettled}

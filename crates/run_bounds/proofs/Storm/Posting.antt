@@ -33,8 +33,8 @@ use Rattle.compute_notify.specs.declared.item.Item.TheVariants as item
 use Rattle.compute_notify.specs.declared.task.Task.{Task}
 use Rattle.compute_notify.proofs.JobRests.{job_few as job_rest_few}
 use Rattle.run_bounds.specs.Hinting.{HasHints, HintsPut, times}
-use Rattle.run_bounds.specs.Ledger.{asked_hints, fresh_hints}
-use Rattle.run_bounds.specs.Ledger.Doing.{works}
+use Rattle.run_bounds.specs.Doing.{asked_hints, fresh_hints}
+use Rattle.run_bounds.specs.Doing.Doing.{works}
 use Rattle.run_bounds.specs.Storm.{Lived, job_cost, job_kind}
 use Rattle.run_bounds.specs.Struck.{Charged, IsBlamed, IsLone, IsMade, IsRenewed}
 use Rattle.run_bounds.proofs.Entered.{post_begins}

@@ -23,8 +23,7 @@ use Rattle.compute_notify.specs.declared.compute.Phase.{Phase}
 use Rattle.compute_notify.specs.declared.compute.Phase.TheVariants as phase
 use Rattle.compute_notify.specs.declared.item.Item.{Item}
 use Rattle.compute_notify.specs.declared.item.Item.TheVariants as item
-use Rattle.run_bounds.proofs.Posted.{IsReady, ready_same}
-use Rattle.run_bounds.proofs.Prepared.{computed_ready}
+use Rattle.run_bounds.proofs.Prepared.{IsReady, computed_ready, ready_same}
 
 pub record Prepared (v u : View) : Type 0 where
   pub is_ready : IsReady v u

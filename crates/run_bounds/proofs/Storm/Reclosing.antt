@@ -48,8 +48,8 @@ use Rattle.compute_notify.proofs.Closing.{close_top, free_hand, taken_open, word
 use Rattle.compute_notify.proofs.Stacking.{rest_behind}
 use Rattle.compute_notify.proofs.TaskRests.{before_more}
 use Rattle.run_bounds.specs.Hinting.{HasHints, HintsPut}
-use Rattle.run_bounds.specs.Ledger.{asked_hints, fresh_hints}
-use Rattle.run_bounds.specs.Ledger.Doing.{works}
+use Rattle.run_bounds.specs.Doing.{asked_hints, fresh_hints}
+use Rattle.run_bounds.specs.Doing.Doing.{works}
 use Rattle.run_bounds.specs.Storm.{Lived, is_lived}
 use Rattle.run_bounds.specs.Struck.{Charged, IsBlamed, IsLone, IsMade, IsRenewed, IsSeen, WasSeen, lives_of}
 use Rattle.run_bounds.proofs.Entered.{noted_grows}

@@ -30,8 +30,8 @@ use Rattle.compute_notify.specs.Tasks.{IsNew}
 use Rattle.compute_notify.specs.declared.task.Task.{Task}
 use Rattle.compute_notify.proofs.JobRests.{new_few}
 use Rattle.run_bounds.specs.Hinting.{HasHints, HintTaken, times}
-use Rattle.run_bounds.specs.Ledger.{Doing, asked_hints, asking_rest, fresh_hints}
-use Rattle.run_bounds.specs.Ledger.Doing.{asks, idle, works}
+use Rattle.run_bounds.specs.Doing.{Doing, asked_hints, asking_rest, fresh_hints}
+use Rattle.run_bounds.specs.Doing.Doing.{asks, idle, works}
 use Rattle.run_bounds.specs.Storm.{Lived, is_lived, job_cost, job_kind}
 use Rattle.run_bounds.specs.Struck.{Charged, IsBlamed, IsLone, IsMade, IsRenewed, WasSeen, doing_left}
 use Rattle.run_bounds.proofs.Entered.{noted_grows, take_begins}

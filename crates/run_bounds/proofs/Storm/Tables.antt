@@ -7,8 +7,7 @@ use Rattle.core_state.specs.declared.views.View.{View}
 use Rattle.core_state.proofs.Base.Words.{read_at, read_else, read_here}
 use Rattle.core_steps.specs.Table.{IsSound, Plain, WordsAfter, view_at}
 use Rattle.core_steps.proofs.Changing.{low_place}
-use Rattle.run_bounds.specs.Calm.{core_in}
-use Rattle.run_bounds.specs.Struck.{IsLone, IsMade}
+use Rattle.run_bounds.specs.Struck.{IsLone, IsMade, core_in}
 use Rattle.run_bounds.proofs.Tables.{alone}
 
 pub lone_table : (e : Setting) (q : Plain) → IsSound e q → length q.views ≡ 1 → IsLone e (core_in q) (view_at q 0)

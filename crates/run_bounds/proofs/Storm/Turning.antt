@@ -24,7 +24,7 @@ use Rattle.compute_notify.specs.declared.item.Item.TheVariants as item
 use Rattle.compute_notify.specs.declared.task.Task.{Task}
 use Rattle.compute_notify.proofs.Turned.{next_stands, next_top}
 use Rattle.run_bounds.specs.Hinting.{HintsPut}
-use Rattle.run_bounds.specs.Ledger.Doing.{idle, works}
+use Rattle.run_bounds.specs.Doing.Doing.{idle, works}
 use Rattle.run_bounds.specs.Struck.{Charged, IsLone, IsMade, Turned, WasSeen}
 use Rattle.run_bounds.proofs.Storm.Electing.{elects_on, renews_on}
 use Rattle.run_bounds.proofs.Storm.Excusing.{serves_on}

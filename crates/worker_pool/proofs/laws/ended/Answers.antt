@@ -1,6 +1,6 @@
 use Rattle.std.proofs.Common.{sym, subst, ◌∙◌}
 use Rattle.worker_pool.specs.Closing.{ClosedTells, StopShown}
-use Rattle.worker_pool.proofs.Ends.{ended_computed, ended_tells, no_value, not_short, not_whole}
+use Rattle.worker_pool.proofs.Ends.{ended_computed, ended_tells, left_pending, no_value, not_whole}
 use Rattle.worker_pool.proofs.laws.ended.Goals as goal
 
 pub returns-in-Some-clause-tells : goal.returns-in-Some-clause-tells
@@ -17,9 +17,9 @@ returns-clause-tells g c outcome strikes lives is = let a = c.args.closed in end
 pub returns-clause-computed : goal.returns-clause-computed
 returns-clause-computed g c none k l = let a = c.args.closed in ended_computed g.C.Course.setting.graph a.records.items a.root_replaced.items c.laws_of.ensures.of_root.replaced _ c.args.stop a.pending _ _ c.ended_by-why-in-None.ensures none k l
 
-pub returns-in-Some-clause-waits : goal.returns-in-Some-clause-waits
-returns-in-Some-clause-waits g c quiet = let a = c.args.closed in not_short _ c.args.stop a.pending a.records.items a.root_replaced.items _ _ quiet (not_whole c.args.stop a.pending (sym c.is_whole-whole.ensures ∙ c.if-whole.false)) c.ended_by-why.ensures
+pub returns-in-Some-clause-short : goal.returns-in-Some-clause-short
+returns-in-Some-clause-short g c = let a = c.args.closed in left_pending _ c.args.stop a.pending a.records.items a.root_replaced.items _ _ (not_whole c.args.stop a.pending (sym c.is_whole-whole.ensures ∙ c.if-whole.false)) c.ended_by-why.ensures
 
-pub returns-clause-waits : goal.returns-clause-waits
-returns-clause-waits g c quiet = let a = c.args.closed in not_short _ c.args.stop a.pending a.records.items a.root_replaced.items _ _ quiet
+pub returns-clause-short : goal.returns-clause-short
+returns-clause-short g c = let a = c.args.closed in left_pending _ c.args.stop a.pending a.records.items a.root_replaced.items _ _
     (λ over. no_value g.C.Course.setting a.pending a.root a.records.items a.root_replaced.items c.laws_of.ensures c.in-None.is) c.ended_by-why-in-None.ensures

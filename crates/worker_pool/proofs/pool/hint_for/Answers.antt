@@ -1,5 +1,5 @@
 use Rattle.std.proofs.Common.{◌∙◌, ◌%◌, ◌+◌, ◌<◌, arith, length, length-set}
-use Rattle.worker_pool.proofs.Calming.Tables.{takes_none, takes_own}
+use Rattle.worker_pool.proofs.Paying.Tables.{takes_none, takes_own}
 use Rattle.worker_pool.proofs.Pooling.{held_at, hints_hold, works_stay}
 use Rattle.worker_pool.proofs.pool.hint_for.Goals as goal
 

@@ -1,11 +1,11 @@
 use Rattle.std.proofs.Common.{◌≡◌, ◌∙◌, ℕ, List, length, map, slice_index, ap, arith, subst, sym}
 use Rattle.std.proofs.lemmas.List.{length-map}
-use Rattle.graph_model.specs.declared.plan.Strike.{Strike}
-use Rattle.compute_notify.specs.Running.{Runs}
-use Rattle.run_bounds.specs.Budgets.{IsCalmRun}
+use Rattle.std.proofs.lemmas.Result.{IfErr-weaker}
+use Rattle.run_bounds.specs.Storm.{IsStormRun}
 use Rattle.worker_pool.specs.Calling.{first_outcome}
-use Rattle.worker_pool.specs.Calming.{BeginsCalm}
-use Rattle.worker_pool.specs.Closing.{IsQuietStop}
+use Rattle.worker_pool.specs.Closing.{LeavesPending}
+use Rattle.worker_pool.specs.Ends.{IsNotShort}
+use Rattle.worker_pool.proofs.Paying.Ending.{calm_ends, paid_ends}
 use Rattle.core_laws.proofs.Holding.{of_tasks}
 use Rattle.worker_pool.proofs.Sums.{all_recorded, none_called_at_all, only_called, run_calls}
 use Rattle.worker_pool.proofs.run.run_all.Goals as goal
@@ -34,12 +34,20 @@ returns-clause-calls g c =
     run_calls before _ c.ended.result.0 c.ended.result.1.items (only_called before _ vs many called)
     (λ all. all_recorded e vs left.words.items left.blocks.items left.records.items left.root_replaced.items c.ended.result.1.items before _ c.in-Some.ensures.closing (ap (λ s. s.graph.root) c.requires.setting) (of_tasks e _ _ _ _ left.meets) many called (c.ended.ensures.computed all))
 
-pub returns-clause-calm : goal.returns-clause-calm
-returns-clause-calm g c = λ one empty enough.
-    let tasks = g.G.TaskGraph.graph c.args.terms.now.graph.now in let e = g.C.Course.setting in let pool = c.in-Ok.ensures in let begun = c.in-Ok.pool in let after = c.run-stop.new.self in let closed = c.in-Some.closed in
+pub returns-clause-paid : goal.returns-clause-paid
+returns-clause-paid g c = λ one enough. let tasks = g.G.TaskGraph.graph c.args.terms.now.graph.now in let strikes = c.args.terms.now.plan.now in let e = g.C.Course.setting in let x = c.run-stop.result in let q = c.run-stop.new.self.table in let closed = c.in-Some.closed in let records = c.ended.result.1.items in
     let workers : c.len.result ≡ 1 = omega (arith, c.len.ensures, one) in
-    let run : IsCalmRun tasks e = record { outcome = first_outcome g.Ke.Kernel.outcome c.args.kernels.now.items; strikes = c.args.terms.now.plan.now; lives = c.args.terms.now.lives; setting_is = c.requires.setting; runs = subst (λ (p : List Strike). Runs tasks p c.args.terms.now.lives e) empty c.requires.runs } in
-    let alone : length begun.table.views ≡ 1 = omega (arith, pool.holds.same_count, pool.count, workers) in
-    let begins : BeginsCalm tasks c.args.terms.now.plan.now e begun.table begun.workers.items c.args.turns = record { run = run; no_strikes = empty; one = alone; enough = enough; none_made = pool.calm workers run } in
-    let pending : slice_index after.table.words 0 ≡ closed.pending = ap (λ (ws : List ℕ). slice_index ws 0) (sym c.in-Some.ensures.words) ∙ sym closed.pending_is in
-    c.ended.ensures.waits (subst (IsQuietStop c.run-stop.result) pending (c.run-stop.ensures.calm begins))
+    let run : IsStormRun tasks strikes e = record { outcome = first_outcome g.Ke.Kernel.outcome c.args.kernels.now.items; lives = c.args.terms.now.lives; setting_is = c.requires.setting; runs = c.requires.runs } in
+    let begins = c.in-Ok.ensures.begins strikes workers run in
+    IfErr-weaker c.ended.result.0 (λ told. LeavesPending x closed.pending closed.records.items closed.root_replaced.items told records) IsNotShort
+    (λ told left. paid_ends tasks strikes e x q closed.words.items closed.blocks.items closed.records.items closed.root_replaced.items records closed.pending (length c.args.schedule.now) c.args.turns told c.in-Some.ensures.closing (c.run-stop.ensures.count ∙ begins.one)
+    (ap (λ (ws : List ℕ). slice_index ws 0) (sym c.in-Some.ensures.words) ∙ sym closed.pending_is) (c.run-stop.ensures.paid begins) left enough) c.ended.ensures.short
+
+pub returns-clause-calm : goal.returns-clause-calm
+returns-clause-calm g c = λ one empty enough. let tasks = g.G.TaskGraph.graph c.args.terms.now.graph.now in let strikes = c.args.terms.now.plan.now in let e = g.C.Course.setting in let x = c.run-stop.result in let q = c.run-stop.new.self.table in let closed = c.in-Some.closed in let records = c.ended.result.1.items in
+    let workers : c.len.result ≡ 1 = omega (arith, c.len.ensures, one) in
+    let run : IsStormRun tasks strikes e = record { outcome = first_outcome g.Ke.Kernel.outcome c.args.kernels.now.items; lives = c.args.terms.now.lives; setting_is = c.requires.setting; runs = c.requires.runs } in
+    let begins = c.in-Ok.ensures.begins strikes workers run in
+    IfErr-weaker c.ended.result.0 (λ told. LeavesPending x closed.pending closed.records.items closed.root_replaced.items told records) IsNotShort
+    (λ told left. calm_ends tasks strikes e x q closed.words.items closed.blocks.items closed.records.items closed.root_replaced.items records closed.pending (length c.args.schedule.now) c.args.turns told c.in-Some.ensures.closing (c.run-stop.ensures.count ∙ begins.one)
+    (ap (λ (ws : List ℕ). slice_index ws 0) (sym c.in-Some.ensures.words) ∙ sym closed.pending_is) (c.run-stop.ensures.paid begins) left empty enough) c.ended.ensures.short

@@ -1,8 +1,12 @@
 use Rattle.std.proofs.Common.{◌≡◌, ◌∙◌, ◌≤◌, ap, length, subst, sym}
 use Rattle.std.proofs.lemmas.List.{length-map}
+use Rattle.std.proofs.lemmas.Result.{IfErr-weaker}
 use Rattle.core_laws.proofs.Holding.{of_tasks}
 use Rattle.task_table.specs.Passes.{Passing}
+use Rattle.worker_pool.specs.Closing.{LeavesPending}
+use Rattle.worker_pool.specs.Ends.{IsNotShort}
 use Rattle.worker_pool.specs.Joining.{views_of}
+use Rattle.worker_pool.proofs.Ends.{not_short}
 use Rattle.worker_pool.proofs.Sums.{all_recorded, only_called, run_calls}
 use Rattle.worker_pool.proofs.Threading.Tells.{home_of, no_hands, quiet_of, stop_tells}
 use Rattle.worker_pool.proofs.threads.close_left.Goals as goal
@@ -27,5 +31,7 @@ returns-clause-calls g c = λ before now many called at_root. let left = c.args.
 
 pub returns-clause-waits : goal.returns-clause-waits
 returns-clause-waits g c = let left = c.args.left in let closed = c.in-Some-close.closed in let vs = views_of left.passes.items in
-    c.ended.ensures.waits (quiet_of g.C.Course.setting vs closed.words.items closed.blocks.items closed.records.items closed.root_replaced.items closed.pending
-    (subst (λ n. 1 ≤ n) (sym (length-map left.passes.items (λ (p : Passing). p.view))) c.requires.some) c.in-Some-close.ensures closed.pending_is left.ending _ (sym c.stop.ensures ∙ c.in-Some.is) c.requires.tells)
+    let quiet = quiet_of g.C.Course.setting vs closed.words.items closed.blocks.items closed.records.items closed.root_replaced.items closed.pending
+    (subst (λ n. 1 ≤ n) (sym (length-map left.passes.items (λ (p : Passing). p.view))) c.requires.some) c.in-Some-close.ensures closed.pending_is left.ending c.in-Some.stop (sym c.stop.ensures ∙ c.in-Some.is) c.requires.tells in
+    IfErr-weaker c.ended.result.0 (λ why. LeavesPending c.in-Some.stop closed.pending closed.records.items closed.root_replaced.items why c.ended.result.1.items) IsNotShort
+    (λ why left_so. not_short c.in-Some.stop closed.pending closed.records.items closed.root_replaced.items why c.ended.result.1.items quiet left_so) c.ended.ensures.short

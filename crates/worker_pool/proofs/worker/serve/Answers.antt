@@ -6,12 +6,12 @@ use Rattle.core_state.specs.Sure.{IsSure}
 use Rattle.core_state.specs.declared.views.View.{View}
 use Rattle.recovery.proofs.Knowing.{row_here}
 use Rattle.recovery.specs.Memory.{KnowsKey}
-use Rattle.run_bounds.specs.Calm.{IsStepped}
-use Rattle.worker_pool.proofs.Calming.Serving.{job_came, next_doing, none_came}
-use Rattle.worker_pool.proofs.Calming.Tasks.{stepped_after}
+use Rattle.worker_pool.proofs.Paying.Serving.{free_lines, job_came, next_doing, none_came}
+use Rattle.worker_pool.proofs.Paying.Tasks.{stepped_after}
 use Rattle.worker_pool.proofs.Turns.{fresh_as, served_job, taken_as}
-use Rattle.run_bounds.specs.Ledger.{Doing, Ledger}
-use Rattle.worker_pool.specs.Calming.{doing_of}
+use Rattle.run_bounds.specs.Doing.{Doing}
+use Rattle.run_bounds.specs.Struck.{Charged, IsMade}
+use Rattle.worker_pool.specs.Paying.{doing_of}
 use Rattle.worker_pool.proofs.worker.serve.Goals as goal
 use Rattle.worker_pool.proofs.worker.serve.Goals.{in-Compute, in-Explore}
 
@@ -29,24 +29,24 @@ returns-then-life-gt0-clause-holds g c = λ tasks names. let r = c.reserve.ensur
     (taken_as e _ v _ w c.args.row c.args.key.0 c.take-life.result _ c.args.job r.table.same_setting r.view c.requires.known t.number t.step.view_is) c.task_of.ensures names c.requires.known some
     (fresh_as e _ v _ w c.args.row c.args.key.0 c.take-life.result c.args.job same r.view c.requires.known (t.fresh c.if-life-gt0.true)) (subst (λ (x : Setting). IsSure x w) same t.step.table.sure)
 
-pub returns-then-life-gt0-clause-calm : goal.returns-then-life-gt0-clause-calm
-returns-then-life-gt0-clause-calm g c = λ tasks hints run. record {
-  on = λ s t turns steps calm later ledger. let a = c.args in let e = g.T.Steps.setting a.steps.now in let v = g.T.Steps.view a.steps.now in let now = c.take-life.new.self in let w = g.T.Steps.view now in let did = c.take-life.ensures in let r = c.reserve.ensures in
+pub returns-then-life-gt0-clause-pays : goal.returns-then-life-gt0-clause-pays
+returns-then-life-gt0-clause-pays g c = λ tasks p lives most hints runs. record {
+  on = λ s t turns steps lone later ledger. let a = c.args in let e = g.T.Steps.setting a.steps.now in let v = g.T.Steps.view a.steps.now in let now = c.take-life.new.self in let w = g.T.Steps.view now in let did = c.take-life.ensures in let r = c.reserve.ensures in
       let some : c.take-life.result ≢ 0 = omega (arith, c.if-life-gt0.true) in
-      job_came e s t v w calm later c.take-life.result turns tasks run a.row a.key.0 c.requires.known hints a.job ledger
-      (subst (λ (n : ℕ). IsStepped e (take a.row a.job (known_key a.row v)) n v w t) (sym did.number)
-      (stepped_after e a.steps.now c.reserve.new.self now t (λ (u : View). take a.row a.job (known_key a.row u)) r.table.same_setting r.view steps did.step))
+      job_came e p most s t v w lone later (free_lines v c.requires.idle) c.take-life.result turns a.row a.key.0 c.requires.known hints tasks lives runs a.job ledger
+      (subst (λ (n : ℕ). IsMade e (take a.row a.job (known_key a.row v)) n s t v w) (sym did.number)
+      (stepped_after e a.steps.now c.reserve.new.self now s t (λ (u : View). take a.row a.job (known_key a.row u)) r.table.same_setting r.view r.made r.table.same_lender steps did.step))
       some c.task_of.result c.task_of.ensures;
 }
 
-pub returns-clause-calm : goal.returns-clause-calm
-returns-clause-calm g c = λ tasks hints run. record {
-  on = λ s t turns steps calm later ledger. let a = c.args in let e = g.T.Steps.setting a.steps.now in let v = g.T.Steps.view a.steps.now in let now = c.take-life.new.self in let w = g.T.Steps.view now in let did = c.take-life.ensures in let r = c.reserve.ensures in
+pub returns-clause-pays : goal.returns-clause-pays
+returns-clause-pays g c = λ tasks p lives most hints runs. record {
+  on = λ s t turns steps lone later ledger. let a = c.args in let e = g.T.Steps.setting a.steps.now in let v = g.T.Steps.view a.steps.now in let now = c.take-life.new.self in let w = g.T.Steps.view now in let did = c.take-life.ensures in let r = c.reserve.ensures in
       let none : c.take-life.result ≡ 0 = omega (arith, c.if-life-gt0.false) in
       let next : next_doing a.row a.key.0 a.job ≡ doing_of c.match-job.result = elim c.match-job.branch [ in-Explore b ↦ ap (next_doing a.row a.key.0) b.in-Explore.is ∙ sym (ap doing_of b.result-is) | in-Compute b ↦ ap (next_doing a.row a.key.0) b.in-Compute.is ∙ sym (ap doing_of b.result-is) ] in
-      subst (λ (x : Doing). Ledger e t w x hints (turns + 1)) next
-      (none_came e s t v w calm later c.take-life.result turns tasks run a.row a.key.0 c.requires.known hints a.job ledger
-      (subst (λ (n : ℕ). IsStepped e (take a.row a.job (known_key a.row v)) n v w t) (sym did.number)
-      (stepped_after e a.steps.now c.reserve.new.self now t (λ (u : View). take a.row a.job (known_key a.row u)) r.table.same_setting r.view steps did.step))
+      subst (λ (x : Doing). Charged e p most t w x hints (turns + 1)) next
+      (none_came e p most s t v w lone later (free_lines v c.requires.idle) c.take-life.result turns a.row a.key.0 c.requires.known hints a.job ledger
+      (subst (λ (n : ℕ). IsMade e (take a.row a.job (known_key a.row v)) n s t v w) (sym did.number)
+      (stepped_after e a.steps.now c.reserve.new.self now s t (λ (u : View). take a.row a.job (known_key a.row u)) r.table.same_setting r.view r.made r.table.same_lender steps did.step))
       none);
 }

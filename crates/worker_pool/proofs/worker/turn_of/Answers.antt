@@ -2,7 +2,7 @@ use Rattle.std.proofs.Common.{◌∙◌, List, Option, ap, rules, subst, sym}
 use Rattle.graph_model.specs.Notes.{Note}
 use Rattle.compute_notify.specs.Tasks.{NewCalls, task_items}
 use Rattle.compute_notify.specs.Eventing.{item_hints}
-use Rattle.worker_pool.proofs.Calming.Tasks.{task_turned}
+use Rattle.worker_pool.proofs.Paying.Tasks.{task_turned}
 use Rattle.worker_pool.proofs.Hinting.{has_next}
 use Rattle.worker_pool.proofs.Turns.{keeps_turned}
 use Rattle.worker_pool.proofs.worker.turn_of.Goals as goal
@@ -19,7 +19,7 @@ pub returns-clause-posted : goal.returns-clause-posted
 returns-clause-posted g c = λ left x is. (search rules) ∙ c.turn.ensures.hints left x is
 
 pub returns-clause-turned : goal.returns-clause-turned
-returns-clause-turned g c = λ t empty steps goes. let r = c.requires in let turn = c.turn.ensures in
+returns-clause-turned g c = λ s t steps goes. let r = c.requires in let turn = c.turn.ensures in
     let next = has_next (g.T.Steps.setting c.args.steps.now).graph c.args.terms.now.plan.now (task_items c.args.task.now) r.holds.bottom r.some in
-    task_turned c.args.terms.now.plan.now c.args.steps.now c.turn.new.steps t c.args.task.now c.turn.new.self next.0 next.1 _ empty steps next.2 (turn.step next.0 next.1 next.2 goes)
+    task_turned c.args.terms.now.plan.now c.args.steps.now c.turn.new.steps s t c.args.task.now c.turn.new.self next.0 next.1 _ steps next.2 (turn.step next.0 next.1 next.2 goes)
     ((search rules) ∙ turn.hints next.0 next.1 next.2 ∙ ap (item_hints next.1) r.posted) (turn.rest next.0 next.1 next.2 goes) (turn.good next.0 next.1 next.2) (turn.again next.0 next.1 next.2)

@@ -4,10 +4,10 @@ use Rattle.core_state.specs.Graph.{Setting}
 use Rattle.core_state.specs.declared.views.View.{View}
 use Rattle.compute_notify.specs.Tasks.{IsNext, NewCalls, task_items}
 use Rattle.compute_notify.specs.declared.item.Item.{Item}
-use Rattle.run_bounds.specs.Ledger.{TaskTurned}
-use Rattle.worker_pool.specs.Calming.{StepsCore}
+use Rattle.run_bounds.specs.Struck.{Turned}
+use Rattle.worker_pool.specs.Paying.{StepsCore}
 use Rattle.worker_pool.proofs.Calls.{called_on}
-use Rattle.worker_pool.proofs.Calming.Tasks.{items_as, reserved_turned}
+use Rattle.worker_pool.proofs.Paying.Tasks.{items_as, reserved_turned, steps_from}
 use Rattle.worker_pool.proofs.Hinting.{turn_few, turn_rows}
 use Rattle.worker_pool.proofs.worker.work_on.Goals as goal
 
@@ -32,8 +32,8 @@ returns-clause-few g c = let r = c.requires in let e = g.T.Steps.setting c.args.
     (subst (λ (xs : List Item). IsNext e.graph strikes xs left (Some x)) (sym (items_as c.args.task.now task c.reserve-2.ensures.same)) is)))
 
 pub returns-clause-turned : goal.returns-clause-turned
-returns-clause-turned g c = λ t empty steps goes. let e = g.T.Steps.setting c.args.steps.now in let v = g.T.Steps.view c.args.steps.now in let w = g.T.Steps.view c.turn_of.new.steps in let r = c.reserve.ensures in let task = c.reserve-2.new.self in
-    reserved_turned e v w t c.args.task.now task c.turn_of.new.task c.turn_of.new.posted c.reserve-2.ensures.same
-    (subst (λ (u : View). TaskTurned e u w t task c.turn_of.new.task c.turn_of.new.posted) r.view
-    (subst (λ (d : Setting). TaskTurned d (g.T.Steps.view c.reserve.new.self) w t task c.turn_of.new.task c.turn_of.new.posted) r.table.same_setting
-    (c.turn_of.ensures.turned t empty (subst (λ (d : Setting). StepsCore g.T.Steps.view g.T.Steps.happened d c.turn_of.new.steps t) (sym r.table.same_setting) steps) goes)))
+returns-clause-turned g c = λ s t steps goes. let e = g.T.Steps.setting c.args.steps.now in let v = g.T.Steps.view c.args.steps.now in let w = g.T.Steps.view c.turn_of.new.steps in let r = c.reserve.ensures in let task = c.reserve-2.new.self in let p = c.args.terms.now.plan.now in
+    reserved_turned e p s t v w c.args.task.now task c.turn_of.new.task c.turn_of.new.posted c.reserve-2.ensures.same
+    (subst (λ (u : View). Turned e p s t u w task c.turn_of.new.task c.turn_of.new.posted) r.view
+    (subst (λ (d : Setting). Turned d p s t (g.T.Steps.view c.reserve.new.self) w task c.turn_of.new.task c.turn_of.new.posted) r.table.same_setting
+    (c.turn_of.ensures.turned s t (subst (λ (d : Setting). StepsCore g.T.Steps.view g.T.Steps.happened g.T.KeyWords.made g.T.Steps.lender d c.reserve.new.self c.turn_of.new.steps s t) (sym r.table.same_setting) (steps_from e c.args.steps.now c.reserve.new.self c.turn_of.new.steps s t r.made r.table.same_lender steps)) goes)))

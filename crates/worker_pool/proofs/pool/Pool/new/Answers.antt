@@ -3,7 +3,7 @@ use Rattle.core_state.specs.Rooted.{root_key}
 use Rattle.core_state.specs.declared.views.View.{View}
 use Rattle.core_steps.specs.Table.{IsSound, first_views}
 use Rattle.worker_pool.specs.Pooling.{AreNew}
-use Rattle.worker_pool.proofs.Calming.Tables.{none_turned}
+use Rattle.worker_pool.proofs.Paying.Tables.{begins_alone}
 use Rattle.worker_pool.proofs.First.{cells_are, first_called, first_count, first_hold, opener_sure, root_at, shape_is}
 use Rattle.worker_pool.proofs.pool.Pool.new.Goals as goal
 
@@ -21,10 +21,10 @@ returns-clause-holds g c = let tasks = g.G.TaskGraph.graph c.args.graph.now in l
     let sound : IsSound e c.in_ok-table.table = subst (IsSound e) c.drop.view_is c.drop.invariant in
     first_hold tasks e run [] c.args.workers vs views ws new (new.same_count ∙ sym count) (opener_sure e c.in_ok-table.table (omega (arith, count, c.requires.workers.0)) sound)
 
-pub returns-clause-calm : goal.returns-clause-calm
-returns-clause-calm g c = λ one run sound. let tasks = g.G.TaskGraph.graph c.args.graph.now in let e = g.C.Course.setting in let table = c.in_ok-table.table in let ws = c.in_ok-new_workers.field-0.items in
+pub returns-clause-begins : goal.returns-clause-begins
+returns-clause-begins g c = λ strikes one run. let tasks = g.G.TaskGraph.graph c.args.graph.now in let e = g.C.Course.setting in let table = c.in_ok-table.table in let ws = c.in_ok-new_workers.field-0.items in
     let new : AreNew tasks (root_key % e.shape.rows) c.args.workers ws = subst (λ n. AreNew tasks n c.args.workers ws) (root_at tasks e c.in_ok-layout.layout c.requires.run c.in_ok-layout.ensures c.root_row-row.result c.root_row-row.ensures) c.in_ok-new_workers.ensures in
-    none_turned tasks e run table ws (c.in_ok-table.ensures.views_are ∙ ap (first_views e) one) (subst (λ n. AreNew tasks (root_key % e.shape.rows) n ws) one new) sound
+    begins_alone tasks strikes e run table ws (c.in_ok-table.ensures.views_are ∙ ap (first_views e) one) (subst (λ n. AreNew tasks (root_key % e.shape.rows) n ws) one new) (subst (IsSound e) c.drop.view_is c.drop.invariant)
 
 pub returns-clause-calls : goal.returns-clause-calls
 returns-clause-calls g c = λ before many. first_called (g.G.TaskGraph.graph c.args.graph.now) g.C.Course.setting c.requires.run [] c.args.workers c.in_ok-table.table.views c.in_ok-table.ensures.views_are before

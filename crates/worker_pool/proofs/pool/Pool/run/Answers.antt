@@ -1,5 +1,9 @@
-use Rattle.std.proofs.Common.{◌≡◌, ◌%◌, ◌∙◌, arith, length, refl, slice_index_or}
-use Rattle.worker_pool.proofs.Calming.Tables.{begins_midway, goes_midway}
+use Rattle.std.proofs.Common.{◌≡◌, ◌≢◌, ◌%◌, ◌∙◌, ℕ, arith, length, refl, slice_index, slice_index_or, subst}
+use Rattle.core_state.specs.Counts.{count}
+use Rattle.core_state.specs.Tests.{is_any_replaced}
+use Rattle.core_steps.specs.Table.{view_at}
+use Rattle.worker_pool.specs.Paying.{IsPaid}
+use Rattle.worker_pool.proofs.Paying.Tables.{paid_for, some_turns}
 use Rattle.worker_pool.proofs.Pooling.{scheduled}
 use Rattle.worker_pool.proofs.pool.Pool.run.Goals as goal
 
@@ -11,7 +15,7 @@ loop-i-init g c = let r = c.requires in record {
   same = record { same_count = refl; same_outcome = r.alike.same_outcome; same_fits = r.alike.same_fits };
   views = refl;
   called = λ before called. called;
-  calm = λ begins. begins_midway (g.G.TaskGraph.graph c.args.terms.now.graph.now) g.C.Course.setting c.args.self.now.table c.args.self.now.workers.items c.args.turns begins.enough begins.none_made;
+  paid = λ begins. record { sound = begins.sound; some = begins.some; turned = begins.none_made };
 }
 
 pub turn-requires-clause-worker : goal.turn-requires-clause-worker
@@ -36,6 +40,12 @@ returns-in-Err-clause-calls g c = λ before called. c.stop.ensures.views before 
 pub returns-in-Err-clause-kernels : goal.returns-in-Err-clause-kernels
 returns-in-Err-clause-kernels g c = c.turn.ensures.kernels _ c.loop-i.invariant.same
 
+pub returns-then-pending-eq0-clause-calls : goal.returns-then-pending-eq0-clause-calls
+returns-then-pending-eq0-clause-calls g c = λ before called. c.turn.ensures.calls before (c.loop-i.invariant.called before called)
+
+pub returns-then-pending-eq0-clause-kernels : goal.returns-then-pending-eq0-clause-kernels
+returns-then-pending-eq0-clause-kernels g c = c.turn.ensures.kernels _ c.loop-i.invariant.same
+
 pub loop-i-preserved : goal.loop-i-preserved
 loop-i-preserved g c = let turn = c.turn.ensures in let before = c.loop-i.invariant in record {
   holds = turn.holds;
@@ -44,11 +54,17 @@ loop-i-preserved g c = let turn = c.turn.ensures in let before = c.loop-i.invari
   same = turn.kernels _ before.same;
   views = turn.count ∙ before.views;
   called = λ calls called. turn.calls calls (before.called calls called);
-  calm = λ begins. let p = c.loop-i.self.table in let ws = c.loop-i.self.workers.items in
+  paid = λ begins. let p = c.loop-i.self.table in let ws = c.loop-i.self.workers.items in let midway = before.paid begins in
       let one : length p.views ≡ 1 = before.views ∙ begins.one in
-      goes_midway (g.G.TaskGraph.graph c.args.terms.now.graph.now) g.C.Course.setting p ws c.turn.new.self.table c.turn.new.self.workers.items c.loop-i.i c.args.turns begins.run begins.enough one (before.holds.same_count ∙ one) c.pending.ensures.sound
-      (λ none. c.if-pending-eq0.false (c.pending.ensures.word ∙ none)) (c.in-Ok-None.ensures.calm begins.no_strikes) (before.calm begins);
+      let some : slice_index c.turn.new.self.table.words 0 ≢ 0 = (λ none. c.if-pending-eq0.false (c.pending.ensures.word ∙ none)) in record {
+        sound = c.pending.ensures.sound;
+        some = some;
+        turned = (c.in-Ok-None.ensures.pays c.in-Ok-None.field-0-is).pays begins.run one midway.sound c.pending.ensures.sound midway.some c.loop-i.i midway.turned;
+      };
 }
 
-pub returns-clause-calm : goal.returns-clause-calm
-returns-clause-calm g c = λ begins. absurd (let few = (c.loop-i.invariant.calm begins).few in omega (arith, few))
+pub returns-clause-paid : goal.returns-clause-paid
+returns-clause-paid g c = λ begins over some. let p = c.loop-i.self.table in let loop = c.loop-i.invariant in let one : length p.views ≡ 1 = loop.views ∙ begins.one in
+    let tasks = g.G.TaskGraph.graph c.args.terms.now.graph.now in let strikes = c.args.terms.now.plan.now in let schedule = c.args.schedule.now in let made : c.loop-i.i ≡ c.args.turns = omega arith in
+    subst (λ (n : ℕ). IsPaid tasks strikes (length schedule) n (count is_any_replaced (view_at p 0).records)) made
+    (paid_for tasks strikes g.C.Course.setting p c.loop-i.self.workers.items (length schedule) c.loop-i.i begins.run one (loop.holds.same_count ∙ one) (some_turns schedule c.requires.schedule) (loop.paid begins))

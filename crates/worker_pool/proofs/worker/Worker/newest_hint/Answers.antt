@@ -1,4 +1,4 @@
-use Rattle.worker_pool.proofs.Calming.Hints.{newest_taken}
+use Rattle.worker_pool.proofs.Paying.Hints.{newest_taken}
 use Rattle.worker_pool.proofs.worker.Worker.newest_hint.Goals as goal
 
 pub returns-clause-taken : goal.returns-clause-taken

@@ -1,12 +1,12 @@
-use Rattle.std.proofs.Common.{◌+◌, ◌<◌, ℕ, All, List, subst, sym}
-use Rattle.compute_notify.specs.Tasks.{TaskTells}
+use Rattle.std.proofs.Common.{◌+◌, ◌<◌, ℕ, All, List, ◌∙◌, ap, subst, sym}
+use Rattle.compute_notify.specs.Tasks.{TaskTells, ends_run}
 use Rattle.run_bounds.specs.Hinting.{HintsPut}
-use Rattle.run_bounds.specs.Ledger.{Ledger}
-use Rattle.run_bounds.proofs.Turning.{task_done}
-use Rattle.worker_pool.specs.Calming.{doing_of}
+use Rattle.run_bounds.specs.Struck.{Charged}
+use Rattle.run_bounds.proofs.Storm.Turning.{task_done}
+use Rattle.worker_pool.specs.Paying.{doing_of}
 use Rattle.worker_pool.specs.Working.{SpentShown, WorkHolds, WorkScratch}
 use Rattle.worker_pool.proofs.Calls.{called_still}
-use Rattle.worker_pool.proofs.Calming.Tasks.{turned_on}
+use Rattle.worker_pool.proofs.Paying.Tasks.{goes_on_told, turned_on}
 use Rattle.worker_pool.specs.declared.worker.Work.{Work}
 use Rattle.worker_pool.proofs.Turns.{done_idle, done_scratch, left_items, spent_shown}
 use Rattle.worker_pool.proofs.worker.Worker.turn.Goals as goal
@@ -44,25 +44,25 @@ pub returns-in_default-clause-spent : goal.returns-in_default-clause-spent
 returns-in_default-clause-spent g c = let e = g.T.Steps.setting c.args.steps.now in let w = g.T.Steps.view c.work_on.new.steps in
     subst (SpentShown e w) (sym c.spent_of.ensures) (spent_shown (g.G.TaskGraph.graph c.args.terms.now.graph.now) e w c.work_on.new.task c.in_ok-turn-in-Busy.turn c.in_ok-turn-in-Busy.ensures.tells)
 
-pub returns-in_ok-self-in-Serve-clause-calm : goal.returns-in_ok-self-in-Serve-clause-calm
-returns-in_ok-self-in-Serve-clause-calm g c = λ empty run busy. record {
-  on = λ s t turns steps calm later ledger. let a = c.args in let e = g.T.Steps.setting a.steps.now in let v = g.T.Steps.view a.steps.now in let hints = a.self.now.hints.items in
-      (c.in_ok-self-in-Serve.ensures.calm (g.G.TaskGraph.graph a.terms.now.graph.now) hints run).on s t turns steps calm later (subst (λ (x : Work). Ledger e s v (doing_of x) hints turns) c.in-Serve.is ledger);
+pub returns-in_ok-self-in-Serve-clause-pays : goal.returns-in_ok-self-in-Serve-clause-pays
+returns-in_ok-self-in-Serve-clause-pays g c = λ goes most few busy. record {
+  on = λ s t turns steps lone later ledger. let a = c.args in let e = g.T.Steps.setting a.steps.now in let v = g.T.Steps.view a.steps.now in let hints = a.self.now.hints.items in let p = a.terms.now.plan.now in
+      (c.in_ok-self-in-Serve.ensures.pays (g.G.TaskGraph.graph a.terms.now.graph.now) p a.terms.now.lives most hints c.requires.runs).on s t turns steps lone later (subst (λ (x : Work). Charged e p most s v (doing_of x) hints turns) c.in-Serve.is ledger);
 }
 
-pub returns-in-Done-clause-calm : goal.returns-in-Done-clause-calm
-returns-in-Done-clause-calm g c = λ empty run busy. record {
-  on = λ s t turns steps calm later ledger. let a = c.args in let tasks = g.G.TaskGraph.graph a.terms.now.graph.now in let e = g.T.Steps.setting a.steps.now in let v = g.T.Steps.view a.steps.now in let w = g.T.Steps.view c.work_on.new.steps in let hints = a.self.now.hints.items in
+pub returns-in-Done-clause-pays : goal.returns-in-Done-clause-pays
+returns-in-Done-clause-pays g c = λ goes most few busy. record {
+  on = λ s t turns steps lone later ledger. let a = c.args in let tasks = g.G.TaskGraph.graph a.terms.now.graph.now in let e = g.T.Steps.setting a.steps.now in let v = g.T.Steps.view a.steps.now in let w = g.T.Steps.view c.work_on.new.steps in let hints = a.self.now.hints.items in let p = a.terms.now.plan.now in
       let told = c.in_ok-turn-in-Busy.turn in let work = c.in_ok-turn-in-Busy.ensures in let now = c.work_on.new.task in let left = c.keep.new.hints.items in
       let holds = subst (WorkHolds tasks e v) c.in-Busy.is c.requires.holds.work in let tells = subst (TaskTells e w now) c.in-Done.is work.tells in
-      task_done e t w left (turns + 1) now (turned_on tasks e run s t v w calm later turns hints c.work_on.new.posted left c.in-Busy.task now told holds.0 work.tells (λ goes. work.turned t empty steps goes)
-      (subst (λ (xs : List ℕ). HintsPut xs c.work_on.new.posted left) c.reserve.ensures.items c.keep.ensures.put) (subst (λ (x : Work). Ledger e s v (doing_of x) hints turns) c.in-Busy.is ledger)) tells.0;
+      task_done e p most t w left (turns + 1) now (turned_on tasks e p a.terms.now.lives most c.requires.runs few s t v w lone later turns hints c.work_on.new.posted left c.in-Busy.task now told holds.0 (ap ends_run c.in-Done.is) (λ on. work.turned s t steps on)
+      (subst (λ (xs : List ℕ). HintsPut xs c.work_on.new.posted left) c.reserve.ensures.items c.keep.ensures.put) (subst (λ (x : Work). Charged e p most s v (doing_of x) hints turns) c.in-Busy.is ledger)) tells.0;
 }
 
-pub returns-in_default-clause-calm : goal.returns-in_default-clause-calm
-returns-in_default-clause-calm g c = λ empty run busy. record {
-  on = λ s t turns steps calm later ledger. let a = c.args in let tasks = g.G.TaskGraph.graph a.terms.now.graph.now in let e = g.T.Steps.setting a.steps.now in let v = g.T.Steps.view a.steps.now in let w = g.T.Steps.view c.work_on.new.steps in let hints = a.self.now.hints.items in
+pub returns-in_default-clause-pays : goal.returns-in_default-clause-pays
+returns-in_default-clause-pays g c = λ goes most few busy. record {
+  on = λ s t turns steps lone later ledger. let a = c.args in let tasks = g.G.TaskGraph.graph a.terms.now.graph.now in let e = g.T.Steps.setting a.steps.now in let v = g.T.Steps.view a.steps.now in let w = g.T.Steps.view c.work_on.new.steps in let hints = a.self.now.hints.items in let p = a.terms.now.plan.now in
       let work = c.in_ok-turn-in-Busy.ensures in let left = c.keep.new.hints.items in let holds = subst (WorkHolds tasks e v) c.in-Busy.is c.requires.holds.work in
-      turned_on tasks e run s t v w calm later turns hints c.work_on.new.posted left c.in-Busy.task c.work_on.new.task c.in_ok-turn-in-Busy.turn holds.0 work.tells (λ goes. work.turned t empty steps goes)
-      (subst (λ (xs : List ℕ). HintsPut xs c.work_on.new.posted left) c.reserve.ensures.items c.keep.ensures.put) (subst (λ (x : Work). Ledger e s v (doing_of x) hints turns) c.in-Busy.is ledger);
+      turned_on tasks e p a.terms.now.lives most c.requires.runs few s t v w lone later turns hints c.work_on.new.posted left c.in-Busy.task c.work_on.new.task c.in_ok-turn-in-Busy.turn holds.0 (goes_on_told c.in_ok-turn-in-Busy.turn (sym c.spent_of.ensures ∙ goes)) (λ on. work.turned s t steps on)
+      (subst (λ (xs : List ℕ). HintsPut xs c.work_on.new.posted left) c.reserve.ensures.items c.keep.ensures.put) (subst (λ (x : Work). Charged e p most s v (doing_of x) hints turns) c.in-Busy.is ledger);
 }

@@ -1,6 +1,5 @@
 -- Hints that are put into a list and taken from it, one at a time.
-use Rattle.std.proofs.Common.{◌≡◌, ℕ, ◌+◌, ◌≤◌, Bool, true, false, cond, eqb, List, [], ◌∷◌, ◌++◌, Option, Some, None, length, arith, refl, ap, ◌∙◌}
-use Rattle.std.proofs.Common.{length-append}
+use Rattle.std.proofs.Common.{Bool, List, None, Option, Some, [], ℕ, ◌++◌, ◌+◌, ◌∙◌, ◌∷◌, ◌≡◌, ◌≤◌, ap, arith, cond, eqb, false, length, length-append, refl, true}
 use Rattle.std.specs.Option.{MatchOption, option_to_list}
 use Rattle.core_state.specs.Counts.{hit}
 use Rattle.core_state.proofs.Base.Counting.{bump_is}
