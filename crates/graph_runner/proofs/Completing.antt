@@ -83,8 +83,8 @@ lacking : (command : Asked) (made : Ending) → made ≡ OutOfMemory → Contain
 lacking command made is = subst (λ e. Contains (statuses_of command) (status_of e)) (sym is) (refused command)
 
 -- why there is no value, where a source is refused for want of memory alone
-failed : (Holds : List Strike → Graph → Outcome → Type 0) (Refuses : Ending → Type 0) (Over : Graph → List Strike → Type 0) (lives : ℕ) (records : List Record) (news : List (List Note)) (statuses : List ℕ) (e : Ending)
-    → ((e : Ending) → Refuses e → e ≡ OutOfMemory) → Contains statuses 7 → Contains statuses 8 → ((g : Graph) (strikes : List Strike) → Over g strikes → Contains statuses 10)
+failed : (Holds : List Strike → Graph → Outcome → Type 0) (Refuses : Ending → Type 0) (Over : Graph → List Strike → List Record → Type 0) (lives : ℕ) (records : List Record) (news : List (List Note)) (statuses : List ℕ) (e : Ending)
+    → ((e : Ending) → Refuses e → e ≡ OutOfMemory) → Contains statuses 7 → Contains statuses 8 → ((g : Graph) (strikes : List Strike) → Over g strikes records → Contains statuses 10)
     → Fails Holds Refuses Over lives records news e → Contains statuses (status_of e)
 failed Holds Refuses Over lives records news statuses (LivesSpent k l c) only seven eight ten fails = seven
 failed Holds Refuses Over lives records news statuses (ScheduleShort pending) only seven eight ten fails = ten fails.graph fails.plan fails.due
@@ -105,7 +105,7 @@ unmade (run workers lives detail) input records news e calm suits makes =
     failed (HoldsFile input) (FailsToAccept input) IsNeverOver lives records news (0 ∷ 7 ∷ 8 ∷ []) e (λ d fails. only_memory_accepts input d suits calm fails) (there 7 0 (7 ∷ 8 ∷ []) (here 7 (8 ∷ []))) after_run
     (λ g strikes over. absurd over) makes
 unmade (replay workers lives detail schedule turns) input records news e calm suits makes =
-    failed (HoldsFile input) (FailsToAccept input) (MayBeOver workers turns) lives records news (0 ∷ 7 ∷ 8 ∷ 10 ∷ []) e (λ d fails. only_memory_accepts input d suits calm fails)
+    failed (HoldsFile input) (FailsToAccept input) (MayBeOver workers schedule turns) lives records news (0 ∷ 7 ∷ 8 ∷ 10 ∷ []) e (λ d fails. only_memory_accepts input d suits calm fails)
     (there 7 0 (7 ∷ 8 ∷ 10 ∷ []) (here 7 (8 ∷ 10 ∷ []))) after_replay
     (λ g strikes over. there 10 0 (7 ∷ 8 ∷ 10 ∷ []) (there 10 7 (8 ∷ 10 ∷ []) (there 10 8 (10 ∷ []) (here 10 [])))) makes
 unmade (paths workers lives) input records news e calm suits makes =

@@ -27,7 +27,7 @@ drill_whole number g outcome plan lives value tasks records news text small hold
     }
 
 pub drill_short : (number : ℕ) (g : Graph) (outcome : Outcome) (plan : List Strike) (reason : Why) (records : List Record) (news : List (List Note))
-    → HoldsDrill number plan g outcome → RunComes g outcome plan 65535 (Err reason) records news → IsDue IsNeverOver g plan reason → Drills number records news (Err (run_ending reason))
+    → HoldsDrill number plan g outcome → RunComes g outcome plan 65535 (Err reason) records news → IsDue IsNeverOver g plan records reason → Drills number records news (Err (run_ending reason))
 drill_short number g outcome plan reason records news holds comes due = short (HoldsDrill number) (λ e. e ≡ ending.OutOfMemory) IsNeverOver g outcome plan 65535 reason records news holds comes due
 
 -- room was refused for the lines

@@ -51,8 +51,8 @@ unreported input g plan lives value records news o comes =
     untold (HoldsFile input) (FailsToAccept input) (graph g) (formula_outcome g) plan lives value records news (holds_file input g plan o) comes
 
 -- a run that ended without the value
-pub file_short : (input : Input) (g : FileGraph) (plan : List Strike) (Over : Graph → List Strike → Type 0) (lives : ℕ) (detail : Bool) (reason : Why) (records : List Record) (news : List (List Note))
-    → IsOpened input g plan → RunComes (graph g) (formula_outcome g) plan lives (Err reason) records news → IsDue Over (graph g) plan reason → Runs input Over lives detail records news (Err (run_ending reason))
+pub file_short : (input : Input) (g : FileGraph) (plan : List Strike) (Over : Graph → List Strike → List Record → Type 0) (lives : ℕ) (detail : Bool) (reason : Why) (records : List Record) (news : List (List Note))
+    → IsOpened input g plan → RunComes (graph g) (formula_outcome g) plan lives (Err reason) records news → IsDue Over (graph g) plan records reason → Runs input Over lives detail records news (Err (run_ending reason))
 file_short input g plan Over lives detail reason records news o comes due =
     short (HoldsFile input) (FailsToAccept input) Over (graph g) (formula_outcome g) plan lives reason records news (holds_file input g plan o) comes due
 
@@ -60,7 +60,7 @@ refuses : (input : Input) → IsRefusal (FailsToAccept input)
 refuses input = record { no_done = λ f. f; no_usage = λ f. f; no_write = λ f. f; no_spent = λ k l c f. f; no_short = λ pending f. f }
 
 -- no graph was accepted
-pub file_fails : (input : Input) (Over : Graph → List Strike → Type 0) (lives : ℕ) (detail : Bool) (records : List Record) (news : List (List Note)) (e : Ending) → FailsToAccept input e → IsIdle records news
+pub file_fails : (input : Input) (Over : Graph → List Strike → List Record → Type 0) (lives : ℕ) (detail : Bool) (records : List Record) (news : List (List Note)) (e : Ending) → FailsToAccept input e → IsIdle records news
     → Runs input Over lives detail records news (Err e)
 file_fails input Over lives detail records news e fails idle = refused (HoldsFile input) (FailsToAccept input) Over lives records news e (refuses input) fails idle
 

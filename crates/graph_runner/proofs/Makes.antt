@@ -18,19 +18,19 @@ use Rattle.graph_runner.specs.declared.terms.Pace.{Pace}
 use Rattle.graph_runner.specs.declared.terms.Pace.TheVariants.{Threads, Turns}
 use Rattle.graph_runner.specs.declared.terms.Terms.{Terms}
 
-as_said : (input : Input) (t : Terms) (Over : Graph → List Strike → Type 0) (workers lives : ℕ) (detail : Bool) (records : List Record) (news : List (List Note)) (made : Result (List ℕ) Ending)
+as_said : (input : Input) (t : Terms) (Over : Graph → List Strike → List Record → Type 0) (workers lives : ℕ) (detail : Bool) (records : List Record) (news : List (List Note)) (made : Result (List ℕ) Ending)
     → AreTerms t workers lives detail → MayEnd workers t.pace ≡ Over → Runs input (MayEnd t.workers t.pace) t.lives t.detail records news made → Runs input Over lives detail records news made
 as_said input t Over workers lives detail records news made are same runs =
-    subst (λ (P : Graph → List Strike → Type 0). Runs input P lives detail records news made) (ap (λ n. MayEnd n t.pace) are.workers_are ∙ same)
+    subst (λ (P : Graph → List Strike → List Record → Type 0). Runs input P lives detail records news made) (ap (λ n. MayEnd n t.pace) are.workers_are ∙ same)
     (subst (λ n. Runs input (MayEnd t.workers t.pace) n detail records news made) are.lives_are
     (subst (λ b. Runs input (MayEnd t.workers t.pace) t.lives b records news made) are.detail_is runs))
 
 pub never_over : (workers : ℕ) (pace : Pace) → pace ≡ Threads → MayEnd workers pace ≡ IsNeverOver
 never_over workers pace is = ap (MayEnd workers) is
 
-may_be_over : (workers : ℕ) (pace : Pace) (schedule : List ℕ) (turns : Option ℕ) → HasTurns pace schedule turns → MayEnd workers pace ≡ MayBeOver workers turns
+may_be_over : (workers : ℕ) (pace : Pace) (schedule : List ℕ) (turns : Option ℕ) → HasTurns pace schedule turns → MayEnd workers pace ≡ MayBeOver workers schedule turns
 may_be_over workers Threads schedule turns has = absurd has
-may_be_over workers (Turns named many) schedule turns has = ap (MayBeOver workers) has.1
+may_be_over workers (Turns named many) schedule turns has = ap (λ ns. MayBeOver workers ns many) has.0 ∙ ap (MayBeOver workers schedule) has.1
 
 -- a file's graph by workers on its terms
 pub on_terms : (command : Command) (t : Terms) (input : Input) (records : List Record) (news : List (List Note)) (made : Result (List ℕ) Ending) → HasTerms (asked command) t
@@ -39,7 +39,7 @@ pub on_terms : (command : Command) (t : Terms) (input : Input) (records : List R
 on_terms (Run workers lives detail) t input records news made has no_drill no_paths runs =
     as_said input t IsNeverOver workers lives detail records news made has.0 (never_over workers t.pace has.1) runs
 on_terms (Replay workers lives detail schedule turns) t input records news made has no_drill no_paths runs =
-    as_said input t (MayBeOver workers turns) workers lives detail records news made has.0 (may_be_over workers t.pace schedule.items turns has.1) runs
+    as_said input t (MayBeOver workers schedule.items turns) workers lives detail records news made has.0 (may_be_over workers t.pace schedule.items turns has.1) runs
 on_terms (Paths workers lives) t input records news made has no_drill no_paths runs = absurd (no_paths workers lives refl)
 on_terms (Drill number workers) t input records news made has no_drill no_paths runs = absurd (no_drill number workers refl)
 on_terms Check t input records news made has no_drill no_paths runs = absurd has

@@ -1,5 +1,5 @@
 -- From what workers come to, to what the run of a graph comes to.
-use Rattle.std.proofs.Common.{◌≡◌, ℕ, ◌≤◌, ℤ, List, [], Option, None, Some, Result, Ok, Err, inl, inr, refl, sym, subst}
+use Rattle.std.proofs.Common.{◌≡◌, ℕ, ◌^◌, ◌<◌, ◌≤◌, ℤ, List, [], length, Option, None, Some, Result, Ok, Err, inl, inr, refl, sym, subst}
 use Rattle.std.specs.Result.{IfErr}
 use Rattle.std.proofs.lemmas.Bool.{cases_lt}
 use Rattle.graph_model.specs.Graph.{Graph}
@@ -9,8 +9,12 @@ use Rattle.graph_model.specs.declared.key.Key.{Key}
 use Rattle.graph_model.specs.declared.record.Cause.{Cause}
 use Rattle.graph_model.specs.declared.record.Record.{Record}
 use Rattle.graph_model.specs.declared.plan.Strike.{Strike}
-use Rattle.run_bounds.specs.Budgets.{enough_turns}
-use Rattle.worker_pool.specs.Completing.{IsComplete}
+use Rattle.core_state.specs.Counts.{count}
+use Rattle.core_state.specs.Tests.{is_any_replaced}
+use Rattle.run_bounds.specs.Budgets.{all_places, enough_turns}
+use Rattle.run_bounds.specs.Storm.{enough_turns_of}
+use Rattle.run_bounds.proofs.Enough.{enough_planned}
+use Rattle.worker_pool.specs.Completing.{HasOneVersion, IsComplete, StrikesNoBlock}
 use Rattle.worker_pool.specs.Ends.{EndCalls, EndTells, IsFinished, IsNotShort, NoneMissing}
 use Rattle.worker_pool.specs.declared.end.Why.{Why}
 use Rattle.worker_pool.specs.declared.end.Why.TheVariants as why
@@ -18,44 +22,62 @@ use Rattle.graph_runner.specs.Endings.{run_ending}
 use Rattle.graph_runner.specs.Notes.{AreRecorded}
 use Rattle.graph_runner.specs.Running.{Fails, IsCutShort, IsIdle, IsRun, LacksRoom}
 use Rattle.graph_runner.specs.Running.LacksRoom.{before, within, behind}
-use Rattle.graph_runner.specs.Terms.{MayBeOver}
+use Rattle.graph_runner.specs.Terms.{AreFewer, AreGivenFewer, MayBeOver, turn_count}
 use Rattle.graph_runner.specs.Workers.{IsCleared, IsDue, RunComes}
 use Rattle.graph_runner.specs.declared.ending.Ending.{Ending}
 use Rattle.graph_runner.specs.declared.ending.Ending.TheVariants.{Done, Usage, ReadFault, WriteFault, Text, Audit, Matrix, LivesSpent, ScheduleShort, OutOfMemory, TooLong}
 
 -- turns that were not over are due
-not_short : (Over : Graph → List Strike → Type 0) (g : Graph) (plan : List Strike) (reason : Why) → IsNotShort reason → IsDue Over g plan reason
-not_short Over g plan why.OutOfMemory is = tt
-not_short Over g plan (why.LivesSpent k l c) is = tt
-not_short Over g plan (why.ScheduleShort pending) is = absurd is
+not_short : (Over : Graph → List Strike → List Record → Type 0) (g : Graph) (plan : List Strike) (records : List Record) (reason : Why) → IsNotShort reason → IsDue Over g plan records reason
+not_short Over g plan records why.OutOfMemory is = tt
+not_short Over g plan records (why.LivesSpent k l c) is = tt
+not_short Over g plan records (why.ScheduleShort pending) is = absurd is
 
 -- a run by threads is not cut short by turns
-pub threads_due : {T E : Type 0} (why_of : E → Why) (made : Result T E) (Over : Graph → List Strike → Type 0) (g : Graph) (plan : List Strike)
-    → IfErr made (λ r. IsNotShort (why_of r)) → IfErr made (λ r. IsDue Over g plan (why_of r))
-threads_due why_of (Ok value) Over g plan is = tt
-threads_due why_of (Err r) Over g plan is = not_short Over g plan (why_of r) is
+pub threads_due : {T E : Type 0} (why_of : E → Why) (records_of : E → List Record) (made : Result T E) (Over : Graph → List Strike → List Record → Type 0) (g : Graph) (plan : List Strike)
+    → IfErr made (λ r. IsNotShort (why_of r)) → IfErr made (λ r. IsDue Over g plan (records_of r) (why_of r))
+threads_due why_of records_of (Ok value) Over g plan is = tt
+threads_due why_of records_of (Err r) Over g plan is = not_short Over g plan (records_of r) (why_of r) is
 
--- turns that one worker has without being told how many are enough, and those that it is told are enough or scant
-over : (given : Option ℕ) (turns : ℕ) (g : Graph) → (given ≡ None → enough_turns g ≤ turns) → ((many : ℕ) → given ≡ Some many → turns ≡ many) → (enough_turns g ≤ turns → ⊥)
-    → (workers : ℕ) (plan : List Strike) → MayBeOver workers given g plan
-over None turns g enough told short workers plan one none = short (enough refl)
-over (Some many) turns g enough told short workers plan one none = elim (cases_lt many (enough_turns g)) [
+below : (n most : ℕ) → (most ≤ n → ⊥) → n < most
+below n most short = elim (cases_lt n most) [
   | inl few ↦ few
-  | inr ample ↦ absurd (short (subst (λ n. enough_turns g ≤ n) (sym (told many refl)) ample))
+  | inr ample ↦ absurd (short ample)
 ]
 
-over_due : (workers : ℕ) (given : Option ℕ) (turns : ℕ) (g : Graph) (plan : List Strike) (reason : Why) → (given ≡ None → enough_turns g ≤ turns) → ((many : ℕ) → given ≡ Some many → turns ≡ many)
-    → (workers ≡ 1 → plan ≡ [] → enough_turns g ≤ turns → IsNotShort reason) → IsDue (MayBeOver workers given) g plan reason
-over_due workers given turns g plan why.OutOfMemory enough told calm = tt
-over_due workers given turns g plan (why.LivesSpent k l c) enough told calm = tt
-over_due workers given turns g plan (why.ScheduleShort pending) enough told calm = λ one none. over given turns g enough told (calm one none) workers plan one none
+-- What is so of turns that were over.
+module _ (turns : ℕ) (schedule : List ℕ) (g : Graph) (plan : List Strike) where
+  -- where no turns are given, a counter holds fewer than were needed
+  fewer : (given : Option ℕ) → turns ≡ turn_count given (length schedule) (length plan) (length g.keys) (all_places g) → (enough_turns_of g (length schedule) (length plan) (length plan) ≤ turns → ⊥) → AreFewer given (enough_turns_of g (length schedule) (length plan) (length plan))
+  fewer None is short = elim (cases_lt (enough_turns_of g (length schedule) (length plan) (length plan)) (2 ^ 64)) [
+    | inl counted ↦ absurd (short (subst (λ n. enough_turns_of g (length schedule) (length plan) (length plan) ≤ n) (sym is) (enough_planned g (length schedule) (length plan) counted)))
+    | inr more ↦ more
+  ]
+  fewer (Some many) is short = subst (λ n. n < enough_turns_of g (length schedule) (length plan) (length plan)) is (below turns (enough_turns_of g (length schedule) (length plan) (length plan)) short)
 
--- a run by turns is cut short only where they may be over
-pub turns_due : {T E : Type 0} (why_of : E → Why) (made : Result T E) (workers : ℕ) (given : Option ℕ) (turns : ℕ) (g : Graph) (plan : List Strike) → (given ≡ None → enough_turns g ≤ turns)
-    → ((many : ℕ) → given ≡ Some many → turns ≡ many) → (workers ≡ 1 → plan ≡ [] → enough_turns g ≤ turns → IfErr made (λ r. IsNotShort (why_of r)))
-    → IfErr made (λ r. IsDue (MayBeOver workers given) g plan (why_of r))
-turns_due why_of (Ok value) workers given turns g plan enough told calm = tt
-turns_due why_of (Err r) workers given turns g plan enough told calm = over_due workers given turns g plan (why_of r) enough told calm
+  -- without a strike, the turns that are there by default are enough
+  given_fewer : (given : Option ℕ) → turns ≡ turn_count given (length schedule) (length plan) (length g.keys) (all_places g) → (given ≡ None → enough_turns g ≤ turns) → (enough_turns g ≤ turns → ⊥) → AreGivenFewer given (enough_turns g)
+  given_fewer None is enough short = short (enough refl)
+  given_fewer (Some many) is enough short = subst (λ n. n < enough_turns g) is (below turns (enough_turns g) short)
+
+  module _ (given : Option ℕ) (is : turns ≡ turn_count given (length schedule) (length plan) (length g.keys) (all_places g)) (enough : given ≡ None → enough_turns g ≤ turns) (workers : ℕ) where
+    over_due : (records : List Record) (reason : Why) → (workers ≡ 1 → enough_turns_of g (length schedule) (length plan) (count is_any_replaced records) ≤ turns → IsNotShort reason)
+        → (workers ≡ 1 → StrikesNoBlock plan → HasOneVersion g → enough_turns_of g (length schedule) (length plan) (length plan) ≤ turns → IsNotShort reason) → (workers ≡ 1 → plan ≡ [] → enough_turns g ≤ turns → IsNotShort reason)
+        → IsDue (MayBeOver workers schedule given) g plan records reason
+    over_due records why.OutOfMemory paid planned calm = tt
+    over_due records (why.LivesSpent k l c) paid planned calm = tt
+    over_due records (why.ScheduleShort pending) paid planned calm = λ one. record {
+      few = subst (λ n. n < enough_turns_of g (length schedule) (length plan) (count is_any_replaced records)) is (below turns (enough_turns_of g (length schedule) (length plan) (count is_any_replaced records)) (paid one));
+      planned = λ words single. fewer given is (planned one words single);
+      calm = λ none. given_fewer given is enough (calm one none);
+    }
+
+    -- a run by turns is cut short only where they may be over
+    pub turns_due : {T E : Type 0} (why_of : E → Why) (records_of : E → List Record) (made : Result T E) → (workers ≡ 1 → IfErr made (λ r. enough_turns_of g (length schedule) (length plan) (count is_any_replaced (records_of r)) ≤ turns → IsNotShort (why_of r)))
+        → (workers ≡ 1 → StrikesNoBlock plan → HasOneVersion g → enough_turns_of g (length schedule) (length plan) (length plan) ≤ turns → IfErr made (λ r. IsNotShort (why_of r))) → (workers ≡ 1 → plan ≡ [] → enough_turns g ≤ turns → IfErr made (λ r. IsNotShort (why_of r)))
+        → IfErr made (λ r. IsDue (MayBeOver workers schedule given) g plan (records_of r) (why_of r))
+    turns_due why_of records_of (Ok value) paid planned calm = tt
+    turns_due why_of records_of (Err r) paid planned calm = over_due (records_of r) (why_of r) paid planned calm
 
 -- ---- the records that are kept: all, but none where room was refused
 pub kept_tells : (g : Graph) (outcome : Outcome) (plan : List Strike) (lives : ℕ) (reason : Why) (records kept : List Record) → (NoneMissing reason → kept ≡ records)
@@ -78,6 +100,11 @@ pub kept_answers : (g : Graph) (plan : List Strike) (lives : ℕ) (reason : Why)
 kept_answers g plan lives why.OutOfMemory records kept same complete = unanswered g plan lives kept
 kept_answers g plan lives (why.LivesSpent k l c) records kept same complete = subst (IsComplete g plan lives (why.LivesSpent k l c)) (sym (same tt)) complete
 kept_answers g plan lives (why.ScheduleShort pending) records kept same complete = subst (IsComplete g plan lives (why.ScheduleShort pending)) (sym (same tt)) complete
+
+pub kept_due : (Over : Graph → List Strike → List Record → Type 0) (g : Graph) (plan : List Strike) (reason : Why) (records kept : List Record) → (NoneMissing reason → kept ≡ records) → IsDue Over g plan records reason → IsDue Over g plan kept reason
+kept_due Over g plan why.OutOfMemory records kept same due = tt
+kept_due Over g plan (why.LivesSpent k l c) records kept same due = tt
+kept_due Over g plan (why.ScheduleShort pending) records kept same due = subst (Over g plan) (sym (same tt)) due
 
 pub cleared : (reason : Why) (kept : List Record) → (reason ≡ why.OutOfMemory → kept ≡ []) → IsCleared (Err reason) kept
 cleared why.OutOfMemory kept none = none refl
@@ -103,13 +130,13 @@ pub untold : (Holds : List Strike → Graph → Outcome → Type 0) (Refuses : E
 untold Holds Refuses g outcome plan lives value records news holds comes = behind value (run_to Holds g outcome plan lives value value records news holds comes refl)
 
 -- a run that ended without the value
-cut : (Holds : List Strike → Graph → Outcome → Type 0) (Over : Graph → List Strike → Type 0) (g : Graph) (outcome : Outcome) (plan : List Strike) (lives : ℕ) (reason : Why) (records : List Record) (news : List (List Note))
-    → Holds plan g outcome → EndTells g outcome plan lives reason records → IsComplete g plan lives reason records → AreRecorded news records → IsDue Over g plan reason → IsCutShort Holds Over lives reason records news
+cut : (Holds : List Strike → Graph → Outcome → Type 0) (Over : Graph → List Strike → List Record → Type 0) (g : Graph) (outcome : Outcome) (plan : List Strike) (lives : ℕ) (reason : Why) (records : List Record) (news : List (List Note))
+    → Holds plan g outcome → EndTells g outcome plan lives reason records → IsComplete g plan lives reason records → AreRecorded news records → IsDue Over g plan records reason → IsCutShort Holds Over lives reason records news
 cut Holds Over g outcome plan lives reason records news holds tells complete noted due =
     record { plan = plan; graph = g; outcome = outcome; holds = holds; tells = tells; complete = complete; noted = noted; due = due }
 
-pub short : (Holds : List Strike → Graph → Outcome → Type 0) (Refuses : Ending → Type 0) (Over : Graph → List Strike → Type 0) (g : Graph) (outcome : Outcome) (plan : List Strike) (lives : ℕ) (reason : Why) (records : List Record) (news : List (List Note))
-    → Holds plan g outcome → RunComes g outcome plan lives (Err reason) records news → IsDue Over g plan reason → Fails Holds Refuses Over lives records news (run_ending reason)
+pub short : (Holds : List Strike → Graph → Outcome → Type 0) (Refuses : Ending → Type 0) (Over : Graph → List Strike → List Record → Type 0) (g : Graph) (outcome : Outcome) (plan : List Strike) (lives : ℕ) (reason : Why) (records : List Record) (news : List (List Note))
+    → Holds plan g outcome → RunComes g outcome plan lives (Err reason) records news → IsDue Over g plan records reason → Fails Holds Refuses Over lives records news (run_ending reason)
 short Holds Refuses Over g outcome plan lives why.OutOfMemory records news holds comes due = within plan g outcome holds comes.cleared
 short Holds Refuses Over g outcome plan lives (why.LivesSpent k l c) records news holds comes due =
     cut Holds Over g outcome plan lives (why.LivesSpent k l c) records news holds comes.tells comes.answers (comes.noted tt) due
@@ -134,7 +161,7 @@ pub record IsRefusal (Refuses : Ending → Type 0) : Type 0 where
   pub no_short : (pending : ℕ) → Refuses (ScheduleShort pending) → ⊥
 
 -- there was nothing to be run
-pub refused : (Holds : List Strike → Graph → Outcome → Type 0) (Refuses : Ending → Type 0) (Over : Graph → List Strike → Type 0) (lives : ℕ) (records : List Record) (news : List (List Note)) (e : Ending)
+pub refused : (Holds : List Strike → Graph → Outcome → Type 0) (Refuses : Ending → Type 0) (Over : Graph → List Strike → List Record → Type 0) (lives : ℕ) (records : List Record) (news : List (List Note)) (e : Ending)
     → IsRefusal Refuses → Refuses e → IsIdle records news → Fails Holds Refuses Over lives records news e
 refused Holds Refuses Over lives records news ReadFault is fails idle = (fails, idle)
 refused Holds Refuses Over lives records news TooLong is fails idle = (fails, idle)

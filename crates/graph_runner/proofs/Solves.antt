@@ -93,7 +93,7 @@ unsolved input g plan lives value records news read comes =
 
 -- a run that ended without the value
 pub solve_short : (input : Input) (g : PathGraph) (plan : List Strike) (lives : ℕ) (reason : Why) (records : List Record) (news : List (List Note)) → IsRead input (matrix_of g plan)
-    → RunComes (graph g) (path_outcome g) plan lives (Err reason) records news → IsDue IsNeverOver (graph g) plan reason → Solves input lives records news (Err (run_ending reason))
+    → RunComes (graph g) (path_outcome g) plan lives (Err reason) records news → IsDue IsNeverOver (graph g) plan records reason → Solves input lives records news (Err (run_ending reason))
 solve_short input g plan lives reason records news read comes due =
     short (HoldsText input) (FailsToRead input) IsNeverOver (graph g) (path_outcome g) plan lives reason records news (holds_text input g plan read) comes due
 

@@ -48,6 +48,6 @@ pub record IsReported (input : Input) (detail : Bool) (records : List Record) (n
   pub says : IsReport (value raw.sink.0 ∷ []) records detail text
 
 -- what workers make of the source, where their turns may be over as told, and where no life above this one is allowed
-abbrev pub Runs : Input → (Graph → List Strike → Type 0) → ℕ → Bool → List Record → List (List Note) → Result (List ℕ) Ending → Type 0
+abbrev pub Runs : Input → (Graph → List Strike → List Record → Type 0) → ℕ → Bool → List Record → List (List Note) → Result (List ℕ) Ending → Type 0
 Runs input Over lives detail records news (Ok text) = IsReported input detail records news text
 Runs input Over lives detail records news (Err ending) = Fails (HoldsFile input) (FailsToAccept input) Over lives records news ending

@@ -28,14 +28,14 @@ pub record IsRun (Holds : List Strike → Graph → Outcome → Type 0) (value :
   pub noted : AreRecorded news records
 
 -- the run ended without the value, for this reason, which its records show; none of them is missing, and its turns, if it had any, were over only where they may be
-pub record IsCutShort (Holds : List Strike → Graph → Outcome → Type 0) (Over : Graph → List Strike → Type 0) (lives : ℕ) (reason : Why) (records : List Record) (news : List (List Note)) : Type 0 where
+pub record IsCutShort (Holds : List Strike → Graph → Outcome → Type 0) (Over : Graph → List Strike → List Record → Type 0) (lives : ℕ) (reason : Why) (records : List Record) (news : List (List Note)) : Type 0 where
   pub plan : List Strike
   pub graph : Graph
   pub outcome : Outcome
   pub holds : Holds plan graph outcome
   pub tells : EndTells graph outcome plan lives reason records
   pub complete : IsComplete graph plan lives reason records
-  pub due : IsDue Over graph plan reason
+  pub due : IsDue Over graph plan records reason
   pub noted : AreRecorded news records
 
 -- no task was computed
@@ -50,7 +50,7 @@ pub data LacksRoom (Holds : List Strike → Graph → Outcome → Type 0) (Refus
   behind : (value : List ℤ) → IsRun Holds value records news → LacksRoom Holds Refuses records news
 
 -- why there is no value of a graph, where no life above this one is allowed: the run was cut short, by its turns only where they may be over; or, as told, there was nothing to be run, and nothing was
-abbrev pub Fails : (List Strike → Graph → Outcome → Type 0) → (Ending → Type 0) → (Graph → List Strike → Type 0) → ℕ → List Record → List (List Note) → Ending → Type 0
+abbrev pub Fails : (List Strike → Graph → Outcome → Type 0) → (Ending → Type 0) → (Graph → List Strike → List Record → Type 0) → ℕ → List Record → List (List Note) → Ending → Type 0
 Fails Holds Refuses Over lives records news (LivesSpent k l c) = IsCutShort Holds Over lives (why.LivesSpent k l c) records news
 Fails Holds Refuses Over lives records news (ScheduleShort pending) = IsCutShort Holds Over lives (why.ScheduleShort pending) records news
 Fails Holds Refuses Over lives records news OutOfMemory = LacksRoom Holds Refuses records news

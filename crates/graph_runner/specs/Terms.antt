@@ -2,7 +2,12 @@
 use Rattle.std.specs.Prelude.{◌≡◌, ◌≢◌, ℕ, ◌+◌, ◌*◌, ◌-◌, ◌^◌, ◌<◌, ◌≤◌, min, max, Bool, true, false, List, [], length, All, Option, None, Some}
 use Rattle.graph_model.specs.Graph.{Graph}
 use Rattle.graph_model.specs.declared.plan.Strike.{Strike}
-use Rattle.run_bounds.specs.Budgets.{enough_turns}
+use Rattle.graph_model.specs.declared.record.Record.{Record}
+use Rattle.core_state.specs.Counts.{count}
+use Rattle.core_state.specs.Tests.{is_any_replaced}
+use Rattle.run_bounds.specs.Budgets.{all_places, enough_turns}
+use Rattle.run_bounds.specs.Storm.{enough_turns_of}
+use Rattle.worker_pool.specs.Completing.{HasOneVersion, StrikesNoBlock}
 use Rattle.command_words.specs.Meaning.{Asked, run, replay, paths, drill, check, print}
 use Rattle.graph_runner.specs.declared.terms.Terms.{Terms}
 use Rattle.graph_runner.specs.declared.terms.Pace.{Pace}
@@ -62,20 +67,32 @@ turn_count None schedule plan tasks places = ample_turns schedule plan tasks pla
 
 -- ---- where they may be over
 
--- turns are given, and are fewer than one worker needs that makes no strike
-abbrev pub AreScant : Option ℕ → Graph → Type 0
-AreScant None g = ⊥
-AreScant (Some turns) g = turns < enough_turns g
+-- fewer turns than these are given; by default there are fewer only where no counter holds so many
+abbrev pub AreFewer : Option ℕ → ℕ → Type 0
+AreFewer None most = 2 ^ 64 ≤ most
+AreFewer (Some turns) most = turns < most
 
--- the turns of so many workers may be over; of one worker with an empty plan only where they are scant
-abbrev pub MayBeOver : ℕ → Option ℕ → Graph → List Strike → Type 0
-MayBeOver workers turns g strikes = workers ≡ 1 → strikes ≡ [] → AreScant turns g
+-- fewer turns than these are given
+abbrev pub AreGivenFewer : Option ℕ → ℕ → Type 0
+AreGivenFewer None most = ⊥
+AreGivenFewer (Some turns) most = turns < most
+
+-- The turns are fewer than one worker needs: for a schedule and a plan of such lengths and as many lives as were replaced; where each of these has a strike of its own, for so many strikes; and where no
+-- strike is planned, for none.
+pub record AreScant (schedule : ℕ) (turns : Option ℕ) (g : Graph) (strikes : List Strike) (records : List Record) : Type 0 where
+  pub few : turn_count turns schedule (length strikes) (length g.keys) (all_places g) < enough_turns_of g schedule (length strikes) (count is_any_replaced records)
+  pub planned : StrikesNoBlock strikes → HasOneVersion g → AreFewer turns (enough_turns_of g schedule (length strikes) (length strikes))
+  pub calm : strikes ≡ [] → AreGivenFewer turns (enough_turns g)
+
+-- the turns of so many workers may be over; of one worker only where they are scant
+abbrev pub MayBeOver : ℕ → List ℕ → Option ℕ → Graph → List Strike → List Record → Type 0
+MayBeOver workers schedule turns g strikes records = workers ≡ 1 → AreScant (length schedule) turns g strikes records
 
 -- there are no turns, so they are never over
-abbrev pub IsNeverOver : Graph → List Strike → Type 0
-IsNeverOver g strikes = ⊥
+abbrev pub IsNeverOver : Graph → List Strike → List Record → Type 0
+IsNeverOver g strikes records = ⊥
 
 -- the same by the pace
-abbrev pub MayEnd : ℕ → Pace → Graph → List Strike → Type 0
-MayEnd workers Threads g strikes = IsNeverOver g strikes
-MayEnd workers (Turns schedule turns) g strikes = MayBeOver workers turns g strikes
+abbrev pub MayEnd : ℕ → Pace → Graph → List Strike → List Record → Type 0
+MayEnd workers Threads g strikes records = IsNeverOver g strikes records
+MayEnd workers (Turns schedule turns) g strikes records = MayBeOver workers schedule.now turns g strikes records

@@ -18,10 +18,10 @@ pub record AreKernels {K : Type 0} (makes : Outcome) (takes : ℕ → List (List
   pub same_takes : All (λ a. (k : ℕ) (lists : List (List ℤ)) → fits a k lists ↔ takes k lists) kernels
 
 -- turns are over only where they may be
-abbrev pub IsDue : (Graph → List Strike → Type 0) → Graph → List Strike → Why → Type 0
-IsDue Over g strikes why.OutOfMemory = Unit {0}
-IsDue Over g strikes (why.LivesSpent k l c) = Unit {0}
-IsDue Over g strikes (why.ScheduleShort pending) = Over g strikes
+abbrev pub IsDue : (Graph → List Strike → List Record → Type 0) → Graph → List Strike → List Record → Why → Type 0
+IsDue Over g strikes records why.OutOfMemory = Unit {0}
+IsDue Over g strikes records (why.LivesSpent k l c) = Unit {0}
+IsDue Over g strikes records (why.ScheduleShort pending) = Over g strikes records
 
 -- where room was refused, no record is left
 abbrev pub IsCleared : Result (List ℤ) Why → List Record → Type 0

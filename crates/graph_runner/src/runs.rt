@@ -52,7 +52,7 @@ fn filed<R: Threads + Wait + Sync, P: Probe + Drop>(
     requires records { records.old.items ≡ [] }
     ensures comes { (news : List (List Note)) × Told P.notes probes.old.items probes.new.items news
         × RunComes (tasks_of graph.now) (formula_outcome graph.now) plan.now terms.now.lives result records.new.items news }
-    ensures due { IfErr result (IsDue (MayEnd terms.now.workers terms.now.pace) (tasks_of graph.now) plan.now) }
+    ensures due { IfErr result (IsDue (MayEnd terms.now.workers terms.now.pace) (tasks_of graph.now) plan.now records.new.items) }
 {
     file_runs(graph);
     let kernels: Result<Vec<FormulaKernel<'_, P>>, AllocError> = kernels_of(

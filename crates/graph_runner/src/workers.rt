@@ -39,7 +39,7 @@ fn run_at_pace<R: Threads + Wait + Sync, G: TaskGraph, Ke: Kernel>(
     ensures end_calls { IfErr result (λ r. EndCalls (map Ke.calls kernels.items) (map Ke.calls r.kernels.items) r.why r.records.items) }
     ensures end_kernels { IfErr result (λ r. SameKernels Ke.outcome Ke.fits kernels.items r.kernels.items) }
     ensures complete { IfErr result (λ r. IsComplete (G.graph graph.now) plan.now terms.now.lives r.why r.records.items) }
-    ensures due { IfErr result (λ r. IsDue (MayEnd terms.now.workers terms.now.pace) (G.graph graph.now) plan.now r.why) }
+    ensures due { IfErr result (λ r. IsDue (MayEnd terms.now.workers terms.now.pace) (G.graph graph.now) plan.now r.records.items r.why) }
 {
     match terms.pace {
         Pace::Threads => run_graph(rt, alloc, graph, kernels, plan, terms.lives),
@@ -78,7 +78,7 @@ fn run_kernels<R: Threads + Wait + Sync, G: TaskGraph, Ke: Kernel>(
     ensures tells { RunTells (G.graph graph.now) (first_outcome Ke.outcome kernels.items) plan.now terms.now.lives result.0 result.1.items }
     ensures answers { RunAnswers (G.graph graph.now) plan.now terms.now.lives result.0 result.1.items }
     ensures calls { RunCalls (map Ke.calls kernels.items) (map Ke.calls result.2.items) result.0 result.1.items }
-    ensures due { IfErr result.0 (IsDue (MayEnd terms.now.workers terms.now.pace) (G.graph graph.now) plan.now) }
+    ensures due { IfErr result.0 (IsDue (MayEnd terms.now.workers terms.now.pace) (G.graph graph.now) plan.now result.1.items) }
     ensures cleared { IsCleared result.0 result.1.items }
     ensures count { vec_len result.2 ≡ vec_len kernels }
 {
@@ -123,7 +123,7 @@ pub(crate) fn run_by_workers<
     requires room { vec_len kernels + vec_len probes.old ≤ vec_capacity probes.old }
     ensures comes { (before : List P) → map Ke.calls kernels.items ++ map P.notes probes.old.items ≡ map P.notes before → (news : List (List Note)) × Told P.notes before probes.new.items news
         × RunComes (G.graph graph.now) (first_outcome Ke.outcome kernels.items) plan.now terms.now.lives result records.new.items news }
-    ensures due { IfErr result (IsDue (MayEnd terms.now.workers terms.now.pace) (G.graph graph.now) plan.now) }
+    ensures due { IfErr result (IsDue (MayEnd terms.now.workers terms.now.pace) (G.graph graph.now) plan.now records.new.items) }
 {
     let (made, done, kernels) = run_kernels::<R, G, Ke>(rt, alloc, graph, plan, terms, kernels);
     put_back::<P, Ke>(kernels, probes);

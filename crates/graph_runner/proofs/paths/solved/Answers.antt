@@ -2,6 +2,7 @@ use Rattle.std.proofs.Common.{◌≡◌, List, subst, sym}
 use Rattle.std.proofs.lemmas.Result.{err_from_is_err_and}
 use Rattle.graph_model.specs.Graph.{Graph}
 use Rattle.graph_model.specs.declared.plan.Strike.{Strike}
+use Rattle.graph_model.specs.declared.record.Record.{Record}
 use Rattle.apsp_graph.specs.Views.{graph}
 use Rattle.worker_pool.specs.declared.end.Why.TheVariants as why
 use Rattle.graph_runner.specs.Notes.{Told}
@@ -43,7 +44,7 @@ returns-in-Err g c =
     let told = c.run_by_workers.ensures.comes c.args.probes.now.items c.in_ok-kernels.ensures.front in
     let made = as_made _ _ _ _ _ _ c.requires.terms.workers.0 c.in_ok-kernels.ensures.kernels _ _ _ _ _ _ told.2 in
     let comes = rw c.in-Err.is at made in
-    let due = subst (λ (Over : Graph → List Strike → Type 0). IsDue Over (graph c.in_ok-graph.graph) c.in_ok-graph.plan c.in-Err.why) (never_over c.args.terms.now.workers c.args.terms.now.pace c.requires.threads) c.in-Err.ensures.due in (
+    let due = subst (λ (Over : Graph → List Strike → List Record → Type 0). IsDue Over (graph c.in_ok-graph.graph) c.in_ok-graph.plan c.run_by_workers.new.records.items c.in-Err.why) (never_over c.args.terms.now.workers c.args.terms.now.pace c.requires.threads) c.in-Err.ensures.due in (
       told.0,
       told.1,
       rw c.run_ending.ensures (solve_short _ c.in_ok-graph.graph c.in_ok-graph.plan c.args.terms.now.lives c.in-Err.why c.run_by_workers.new.records.items told.0 c.in_ok-graph.ensures comes due),

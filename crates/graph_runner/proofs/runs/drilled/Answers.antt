@@ -4,6 +4,7 @@ use Rattle.acyclic_audit.specs.Views.{graph}
 use Rattle.graph_runner.specs.Formulas.{formula_outcome}
 use Rattle.graph_model.specs.Graph.{Graph}
 use Rattle.graph_model.specs.declared.plan.Strike.{Strike}
+use Rattle.graph_model.specs.declared.record.Record.{Record}
 use Rattle.graph_runner.specs.Running.LacksRoom.{before}
 use Rattle.graph_runner.specs.Workers.{IsDue}
 use Rattle.graph_runner.proofs.Drills.{drill_short, drill_untold, drill_whole}
@@ -27,7 +28,7 @@ pub returns-in-Err : goal.returns-in-Err
 returns-in-Err g c =
     let told = c.filed.ensures.comes in
     let comes = rw (c.in-Err.is, c.requires.lives) at told.2 in
-    let due = subst (λ (Over : Graph → List Strike → Type 0). IsDue Over (graph c.in_ok-graph.graph) c.in_ok-graph.plan c.in-Err.why) (never_over c.args.terms.now.workers c.args.terms.now.pace c.requires.threads) c.in-Err.ensures.due in (
+    let due = subst (λ (Over : Graph → List Strike → List Record → Type 0). IsDue Over (graph c.in_ok-graph.graph) c.in_ok-graph.plan c.filed.new.records.items c.in-Err.why) (never_over c.args.terms.now.workers c.args.terms.now.pace c.requires.threads) c.in-Err.ensures.due in (
       told.0,
       told.1,
       rw c.run_ending.ensures

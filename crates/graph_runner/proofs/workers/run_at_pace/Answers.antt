@@ -5,11 +5,11 @@ use Rattle.graph_runner.proofs.workers.run_at_pace.Goals as goal
 
 pub returns-in-Threads-clause-due : goal.returns-in-Threads-clause-due
 returns-in-Threads-clause-due g c =
-    threads_due (λ r. r.why) c.run_graph.result (MayEnd c.args.terms.now.workers c.args.terms.now.pace) (g.G.TaskGraph.graph c.args.graph.now) c.args.plan.now c.run_graph.ensures.waits
+    threads_due (λ r. r.why) (λ r. r.records.items) c.run_graph.result (MayEnd c.args.terms.now.workers c.args.terms.now.pace) (g.G.TaskGraph.graph c.args.graph.now) c.args.plan.now c.run_graph.ensures.waits
 
 pub returns-in-Turns-clause-due : goal.returns-in-Turns-clause-due
 returns-in-Turns-clause-due g c =
-    let within = rw c.in-Turns.is at c.requires.terms.pace in
+    let within = rw c.in-Turns.is at c.requires.terms.pace in let run = c.run_virtual.ensures in
     rw c.in-Turns.is
-    (turns_due (λ r. r.why) c.run_virtual.result c.args.terms.now.workers c.in-Turns.turns c.turns_for-turns.result (g.G.TaskGraph.graph c.args.graph.now) c.args.plan.now
-    (λ none. c.turns_for-turns.ensures.enough none within.0) (λ many is. rw is at c.turns_for-turns.ensures.count) (λ one none enough. c.run_virtual.ensures.calm (c.requires.kernels ∙ one) none enough))
+    (turns_due c.turns_for-turns.result c.in-Turns.schedule.now (g.G.TaskGraph.graph c.args.graph.now) c.args.plan.now c.in-Turns.turns c.turns_for-turns.ensures.count (λ none. c.turns_for-turns.ensures.enough none within.0) c.args.terms.now.workers
+    (λ r. r.why) (λ r. r.records.items) c.run_virtual.result (λ one. run.paid (c.requires.kernels ∙ one)) (λ one. run.planned (c.requires.kernels ∙ one)) (λ one. run.calm (c.requires.kernels ∙ one)))
