@@ -1,5 +1,5 @@
 -- A run of one worker, as its charges see it: each turn pays for itself, so that no such run falls short of turns that are enough.
-use Rattle.std.specs.Prelude.{◌≡◌, ◌≢◌, ℕ, ◌+◌, ◌<◌, ◌≤◌, false, List, [], Option, Some, None, length, slice_get, slice_index}
+use Rattle.std.specs.Prelude.{◌≡◌, ◌≢◌, ℕ, ◌+◌, ◌<◌, false, List, [], Option, Some, None, length, slice_get, slice_index}
 use Rattle.graph_model.specs.Graph.{Graph as TaskGraph}
 use Rattle.graph_model.specs.declared.plan.Strike.{Strike}
 use Rattle.core_state.specs.Graph.{Setting}

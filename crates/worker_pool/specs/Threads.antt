@@ -4,9 +4,9 @@ use Rattle.graph_model.specs.Graph.{Graph as TaskGraph}
 use Rattle.graph_model.specs.Notes.{Note}
 use Rattle.graph_model.specs.Serial.{Outcome}
 use Rattle.atomic_table.specs.Seated.{TableId}
-use Rattle.core_state.specs.Counts.{facts, items}
-use Rattle.core_state.specs.Tests.{is_idle, is_suspect_for}
-use Rattle.core_state.specs.Graph.{Setting, greatest_life}
+use Rattle.core_state.specs.Counts.{facts}
+use Rattle.core_state.specs.Tests.{is_idle}
+use Rattle.core_state.specs.Graph.{Setting}
 use Rattle.core_state.specs.Views.{blank}
 use Rattle.core_state.specs.declared.views.View.{View}
 use Rattle.compute_notify.specs.Running.{Makes, SameKernel}

@@ -1,5 +1,5 @@
 -- A turn of a table's only worker pays for itself, as its seat tells.
-use Rattle.std.proofs.Common.{◌≡◌, ◌≢◌, ◌∙◌, ℕ, ◌+◌, ◌-◌, ◌%◌, ◌<◌, ◌≤◌, true, List, [], ◌∷◌, Some, None, length, set, slice_get, slice_index, slice_index_or, ⊎_elim, ap, subst, sym, refl, arith}
+use Rattle.std.proofs.Common.{◌≡◌, ◌≢◌, ◌∙◌, ℕ, ◌+◌, ◌-◌, ◌%◌, ◌<◌, true, List, [], ◌∷◌, Some, None, length, set, slice_get, slice_index, slice_index_or, ⊎_elim, ap, subst, sym, refl, arith}
 use Rattle.std.proofs.Math.Bridge.{le_prop}
 use Rattle.std.proofs.Math.Logic.{∥∥₁_elim}
 use Rattle.std.proofs.lemmas.Option.{same_Some, slice_get-get_or}
@@ -19,7 +19,7 @@ use Rattle.run_bounds.specs.Struck.{Charged, IsLone, IsMade, core_in}
 use Rattle.run_bounds.specs.Hinting.{HintTaken}
 use Rattle.run_bounds.specs.Doing.{Doing}
 use Rattle.run_bounds.specs.Doing.Doing.{idle}
-use Rattle.run_bounds.specs.Storm.{IsStormRun, enough_turns_of, most_cost}
+use Rattle.run_bounds.specs.Storm.{IsStormRun, most_cost}
 use Rattle.run_bounds.proofs.Tables.{pending_table}
 use Rattle.run_bounds.proofs.Storm.Beginning.{opens}
 use Rattle.run_bounds.proofs.Storm.Ending.{calm_turns, few_turns, nothing_pending}

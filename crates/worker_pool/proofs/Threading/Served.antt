@@ -1,6 +1,6 @@
 -- The slots of a run before and after their threads: what stands at a place of the kernels, the workers and the views is of one slot.
-use Rattle.std.proofs.Common.{◌≡◌, ◌∙◌, ℕ, ℤ, zero, suc, ◌+◌, ◌-◌, ◌<◌, ◌≤◌, ◌↔◌, All, List, [], ◌∷◌, ◌++◌, Option, Some, None, length, map, slice_index_or, take, ap, subst, sym, refl, arith}
-use Rattle.std.proofs.lemmas.List.{length-map, map-append}
+use Rattle.std.proofs.Common.{◌≡◌, ◌∙◌, ℕ, ℤ, suc, ◌-◌, ◌<◌, ◌↔◌, All, List, [], ◌∷◌, ◌++◌, Option, Some, None, length, map, slice_index_or, take, ap, subst, sym, refl, arith}
+use Rattle.std.proofs.lemmas.List.{map-append}
 use Rattle.std.proofs.lemmas.Option.{slice_get-get_or}
 use Rattle.atomic_table.specs.Seated.{TableId}
 use Rattle.graph_model.specs.Graph.{Graph as TaskGraph}
@@ -14,10 +14,10 @@ use Rattle.core_steps.specs.Table.{view_in}
 use Rattle.compute_notify.specs.Running.{Makes, SameKernel}
 use Rattle.task_table.specs.Passes.{Passing, lender_of}
 use Rattle.task_table.proofs.Lent.{same_parts, same_table}
-use Rattle.worker_pool.specs.Calling.{AreAlike, FirstFits, HasCalled, SameKernels, first_outcome}
+use Rattle.worker_pool.specs.Calling.{AreAlike, HasCalled, SameKernels}
 use Rattle.worker_pool.specs.Joining.{parts_of}
 use Rattle.worker_pool.specs.Pooling.{KernelsCalled, KernelsMake, WorkersHold}
-use Rattle.worker_pool.specs.Threads.{AreServed, EndsWell, IsOf, IsReady, IsServed, StationHolds, slot_view, turned, view_of}
+use Rattle.worker_pool.specs.Threads.{AreServed, EndsWell, IsOf, IsReady, IsServed, slot_view, turned, view_of}
 use Rattle.worker_pool.specs.Working.{WorkerHolds}
 use Rattle.worker_pool.specs.declared.slot.Slot.{Slot}
 use Rattle.worker_pool.specs.declared.worker.Worker.{Worker}

@@ -1,5 +1,5 @@
 -- One thread: what a turn leaves of its worker, and how the worker ends.
-use Rattle.std.proofs.Common.{◌≡◌, ◌∙◌, ℕ, ◌<◌, ℤ, Bool, true, false, List, [], ◌∷◌, IfSome, Option, None, Some, All, ap, not, subst, sym, refl, arith}
+use Rattle.std.proofs.Common.{◌≡◌, ◌∙◌, ℕ, ◌<◌, ℤ, Bool, true, false, List, ◌∷◌, IfSome, Option, None, Some, All, ap, not, subst, sym, refl, arith}
 use mathlib.Core.Bool.{true≢false}
 use Rattle.graph_model.specs.Graph.{Graph as TaskGraph}
 use Rattle.graph_model.specs.Serial.{Outcome}
@@ -11,7 +11,6 @@ use Rattle.core_state.specs.Tests.{is_idle as is_seen_idle, is_suspect_for}
 use Rattle.core_state.specs.Views.{is_finished, on_top, unfinished}
 use Rattle.core_state.specs.declared.views.Item.{Item}
 use Rattle.core_state.specs.declared.views.Item.TheVariants as item
-use Rattle.core_state.specs.declared.views.Known.{Known}
 use Rattle.core_state.specs.declared.views.Known.TheVariants as known
 use Rattle.core_state.specs.declared.views.Stack.{Stack}
 use Rattle.core_state.specs.declared.views.View.{View}
@@ -19,12 +18,10 @@ use Rattle.core_state.proofs.Base.Counting.{bump_is}
 use Rattle.core_state.proofs.Settle.View.{settled_same}
 use Rattle.recovery.specs.Memory.{SameResults}
 use Rattle.compute_notify.specs.Running.{SameKernel}
-use Rattle.worker_pool.specs.Working.{IsIdle, SpentShown, WorkHolds, WorkScratch, WorkerHolds, is_idle}
+use Rattle.worker_pool.specs.Working.{IsIdle, WorkHolds, WorkScratch, is_idle}
 use Rattle.worker_pool.specs.declared.slot.Ending.{Ending}
 use Rattle.worker_pool.specs.declared.slot.Ending.TheVariants as ending
 use Rattle.worker_pool.specs.declared.slot.Station.{Station}
-use Rattle.worker_pool.specs.declared.worker.Work.{Work}
-use Rattle.worker_pool.specs.declared.worker.Work.TheVariants as work
 use Rattle.worker_pool.specs.declared.worker.Worker.{Worker}
 use Rattle.worker_pool.specs.Threads.{EndsWell, SameStation, StationHolds}
 use Rattle.worker_pool.proofs.Turns.{idle_is}

@@ -1,20 +1,17 @@
 -- What all threads of a run come to, from what each came to.
-use Rattle.std.proofs.Common.{◌≡◌, ◌∙◌, ℕ, ℤ, zero, suc, ◌+◌, ◌-◌, ◌<◌, ◌≤◌, ◌↔◌, All, Bool, List, [], ◌∷◌, ◌++◌, Option, Some, None, length, map, slice_index, slice_index_or, slice_get, ap, subst, sym, refl, arith}
+use Rattle.std.proofs.Common.{◌≡◌, ◌∙◌, ℕ, zero, suc, ◌-◌, ◌<◌, ◌≤◌, All, Bool, List, [], ◌∷◌, ◌++◌, Option, Some, None, length, slice_index, ap, subst, sym, refl, arith}
 use mathlib.Core.Logic.{dite}
 use native.Mathlib.Decide.{dec_lt}
 use Rattle.std.proofs.lemmas.List.{get_or-append_right, get_or_append_left, get_or-map, length-map, map-append}
 use Rattle.std.proofs.lemmas.List.Elements.{All-append, All-nil}
 use Rattle.std.proofs.lemmas.Option.{none-some, same_Some}
 use Rattle.atomic_table.specs.Seated.{TableId}
-use Rattle.graph_model.specs.Graph.{Graph as TaskGraph}
-use Rattle.graph_model.specs.Notes.{Note}
-use Rattle.graph_model.specs.Serial.{Outcome}
 use Rattle.graph_model.specs.declared.record.Cause.{Cause}
 use Rattle.graph_model.specs.declared.record.Record.{Record}
 use Rattle.core_state.specs.Counts.{facts, items, total_of}
 use Rattle.core_state.specs.Graph.{Setting}
 use Rattle.core_state.specs.Tests.{is_idle as is_seen_idle, is_suspect_for}
-use Rattle.core_state.specs.Views.{blank, joined}
+use Rattle.core_state.specs.Views.{blank}
 use Rattle.core_state.specs.Words.{pending}
 use Rattle.core_state.proofs.Base.Words.{read_at}
 use Rattle.core_state.specs.declared.block.BlockCells.{BlockCells}
@@ -29,7 +26,6 @@ use Rattle.worker_pool.specs.Pooling.{IsLastLife, StopTells}
 use Rattle.worker_pool.specs.Threads.{AllTell, AreHome, EndsWell, IsOf, either_ending, stop_of, view_of}
 use Rattle.worker_pool.specs.Closing.{IsQuietStop}
 use Rattle.worker_pool.specs.declared.pool.Stop.{Stop}
-use Rattle.worker_pool.specs.declared.pool.Stop.TheVariants as stop
 use Rattle.worker_pool.specs.declared.slot.Ending.{Ending}
 use Rattle.worker_pool.specs.declared.slot.Ending.TheVariants as ending
 use Rattle.worker_pool.specs.declared.worker.Spent.{Spent}

@@ -1,6 +1,4 @@
-use Rattle.std.proofs.Common.{◌≡◌, ◌∙◌, List, Option, refl, subst, sym}
-use Rattle.graph_model.specs.Notes.{Note}
-use Rattle.core_state.specs.declared.views.View.{View}
+use Rattle.std.proofs.Common.{◌∙◌, refl, subst, sym}
 use Rattle.task_table.specs.Passes.{Passing, lender_of}
 use Rattle.worker_pool.specs.Calling.{HasCalled}
 use Rattle.worker_pool.specs.Threads.{EndsWell}

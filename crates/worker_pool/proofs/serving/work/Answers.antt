@@ -1,5 +1,4 @@
-use Rattle.std.proofs.Common.{◌≡◌, ◌∙◌, IfNone, List, Option, rules, subst, sym}
-use Rattle.graph_model.specs.Notes.{Note}
+use Rattle.std.proofs.Common.{◌∙◌, IfNone, rules, subst, sym}
 use Rattle.core_state.specs.declared.views.View.{View}
 use Rattle.task_table.specs.Passes.{lender_of}
 use Rattle.worker_pool.specs.Calling.{HasCalled}

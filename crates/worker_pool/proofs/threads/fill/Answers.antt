@@ -1,4 +1,4 @@
-use Rattle.std.proofs.Common.{◌≡◌, ◌∙◌, [], ◌∷◌, ap, arith, refl}
+use Rattle.std.proofs.Common.{◌≡◌, ◌∙◌, [], ◌∷◌, ap, arith}
 use Rattle.std.proofs.lemmas.List.{map-append}
 use Rattle.task_table.specs.Passes.{Passing}
 use Rattle.worker_pool.specs.Joining.{views_of}

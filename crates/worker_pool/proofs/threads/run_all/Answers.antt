@@ -1,4 +1,4 @@
-use Rattle.std.proofs.Common.{List, map, ap, subst, sym}
+use Rattle.std.proofs.Common.{map, subst, sym}
 use Rattle.worker_pool.specs.Calling.{OnlyCalled}
 use Rattle.worker_pool.proofs.Sums.{none_called_at_all}
 use Rattle.worker_pool.proofs.threads.run_all.Goals as goal

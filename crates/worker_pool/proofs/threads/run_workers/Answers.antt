@@ -1,4 +1,4 @@
-use Rattle.std.proofs.Common.{◌≡◌, ◌∙◌, ◌≤◌, List, Option, ap, arith, length, map, subst, sym}
+use Rattle.std.proofs.Common.{◌∙◌, List, Option, ap, arith, length, map, subst, sym}
 use Rattle.std.proofs.lemmas.List.{length-map}
 use Rattle.graph_model.specs.Notes.{Note}
 use Rattle.core_state.specs.declared.views.View.{View}
