@@ -19,9 +19,9 @@ use Rattle.core_state.specs.declared.views.Item.TheVariants as item
 use Rattle.core_state.specs.declared.views.View.{View}
 use Rattle.core_state.proofs.End.Lists.{count_below, within, nothing_else, none_of_root, list_spent, list_computed, list_replaced, list_lives, list_edges}
 use Rattle.core_state.proofs.End.Causes.{list_causes, list_suspected, root_suspected, root_lives, root_once, root_before, root_shown}
-use Rattle.core_state.proofs.Row.Made.{both, replaced_of}
+use Rattle.core_state.proofs.Row.Made.{replaced_of}
 use Rattle.core_state.proofs.Row.View.{items_below}
-use Rattle.core_state.proofs.Base.Counting.{eqb_here}
+use Rattle.core_state.proofs.Base.Counting.{eqb_here, both}
 use Rattle.core_state.proofs.Plan.PlayedList.{list_planned, list_played}
 use Rattle.core_state.proofs.End.Quiet.{finished, root_home}
 use Rattle.core_state.proofs.Base.Words.{read_at}

@@ -9,8 +9,7 @@ use Rattle.core_state.specs.Counts.{bump, count, hit}
 use Rattle.core_state.specs.Graph.{Graph, Plan}
 use Rattle.core_state.specs.Laws.{Planned}
 use Rattle.core_state.specs.Tests.{is_struck_upto, names_hit, same_hit, strikes_upto, two}
-use Rattle.core_state.proofs.Base.Counting.{bump_is, eqb_here, hit_le, two_tells}
-use Rattle.core_state.proofs.Row.Made.{both}
+use Rattle.core_state.proofs.Base.Counting.{bump_is, eqb_here, hit_le, two_tells, both}
 use Rattle.worker_pool.specs.Completing.{IsOwn}
 use Rattle.worker_pool.proofs.Landing.{IsWord, Landing, in_life, names_one, on_word, on_word_upto, planned_below, same_hit_here}
 use Rattle.worker_pool.proofs.Places.{below, count_or, few_below, fresh}

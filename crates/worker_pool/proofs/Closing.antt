@@ -11,11 +11,10 @@ use Rattle.core_state.specs.Tests.{is_any_replaced, is_any_struck, is_computed, 
 use Rattle.core_state.specs.Graph.{Graph}
 use Rattle.core_state.specs.Laws.{IsGrounded, Shown}
 use Rattle.core_state.specs.declared.views.View.{View}
-use Rattle.core_state.proofs.Base.Counting.{eqb_here}
+use Rattle.core_state.proofs.Base.Counting.{eqb_here, both}
 use Rattle.core_state.proofs.Base.Sums.{total_below}
 use Rattle.core_state.proofs.Blocks.Blame.{cause_here}
 use Rattle.core_state.proofs.Blocks.Versions.{count_some}
-use Rattle.core_state.proofs.Row.Made.{both}
 use Rattle.core_state.proofs.Row.View.{count_below, fewer}
 use Rattle.core_state.proofs.Seats.View.{count_both}
 use Rattle.core_laws.specs.Lists.{AreOfTasks, RootReplaced, RootShown}

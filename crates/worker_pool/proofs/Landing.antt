@@ -13,9 +13,8 @@ use Rattle.core_state.specs.Counts.{count, hit}
 use Rattle.core_state.specs.Graph.{Graph, Plan}
 use Rattle.core_state.specs.Laws.{planned}
 use Rattle.core_state.specs.Tests.{is_struck, is_struck_upto, names_hit, same_hit, strikes_upto, two}
-use Rattle.core_state.proofs.Base.Counting.{eqb_here, two_here}
+use Rattle.core_state.proofs.Base.Counting.{eqb_here, two_here, both}
 use Rattle.core_state.proofs.Blocks.Versions.{count_some}
-use Rattle.core_state.proofs.Row.Made.{both}
 use Rattle.core_state.proofs.Row.View.{count_below}
 use Rattle.worker_pool.proofs.Places.{below, count_or, count_two}
 

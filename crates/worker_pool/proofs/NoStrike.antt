@@ -15,10 +15,9 @@ use Rattle.core_state.specs.Graph.{Graph}
 use Rattle.core_state.specs.Laws.{CausesShown, IsGrounded, Shown, grounded_upto, grounds, reads_upto}
 use Rattle.core_state.specs.Laws.Shown.{descriptor as s_descriptor, notify as s_notify, struck as s_struck, other}
 use Rattle.core_state.specs.Tests.{is_any_replaced, is_any_struck, is_replaced_for, is_struck, is_struck_version, same_cause, two}
-use Rattle.core_state.proofs.Base.Counting.{two_here}
+use Rattle.core_state.proofs.Base.Counting.{two_here, both}
 use Rattle.core_state.proofs.Blocks.Blame.{cause_here}
 use Rattle.core_state.proofs.Blocks.Versions.{count_some}
-use Rattle.core_state.proofs.Row.Made.{both}
 use Rattle.core_state.proofs.Row.View.{fewer}
 
 struck_any : (k l : ℕ) (h : Hit) (x : Record) → is_struck k l h x ≡ true → is_any_struck x ≡ true

@@ -10,8 +10,8 @@ use Rattle.core_state.specs.Graph.{Graph, Lawful, Plan, Reached}
 use Rattle.core_state.specs.Graph.Reached.{itself}
 use Rattle.core_state.specs.Laws.{IsGrounded, Planned, Shown, SixLaws}
 use Rattle.core_state.specs.Tests.{is_any_replaced, is_of, is_replaced, is_struck, key_named, same_hit, two}
-use Rattle.core_state.proofs.Base.Counting.{bump_is, hit_le, two_here, two_tells}
-use Rattle.core_state.proofs.Row.Made.{both, struck_of}
+use Rattle.core_state.proofs.Base.Counting.{bump_is, hit_le, two_here, two_tells, both}
+use Rattle.core_state.proofs.Row.Made.{struck_of}
 use Rattle.core_state.proofs.Row.View.{count_below}
 use Rattle.core_state.proofs.Seats.View.{count_both}
 use Rattle.core_laws.specs.Lists.{AreOfTasks, RootReplaced, RootShown}

@@ -14,10 +14,9 @@ use Rattle.core_state.specs.Laws.{Concerns, IsGrounded, Planned, Shown, SixLaws,
 use Rattle.core_state.specs.Laws.Concerns.{input, own}
 use Rattle.core_state.specs.Laws.Shown.{descriptor as s_descriptor, notify as s_notify, struck as s_struck, other}
 use Rattle.core_state.specs.Tests.{is_miswritten, is_of, is_replaced, is_replaced_for, is_struck_upto, is_struck_version, is_version, names_hit, same_cause, same_hit, strikes_upto, two}
-use Rattle.core_state.proofs.Base.Counting.{eqb_here, two_here, two_tells}
+use Rattle.core_state.proofs.Base.Counting.{eqb_here, two_here, two_tells, both}
 use Rattle.core_state.proofs.Blocks.Blame.{cause_here}
 use Rattle.core_state.proofs.Blocks.Versions.{count_some}
-use Rattle.core_state.proofs.Row.Made.{both}
 use Rattle.worker_pool.proofs.Landing.{Landing, same_hit_is}
 
 -- a target that names a block is one
