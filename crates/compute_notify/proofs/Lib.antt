@@ -14,6 +14,7 @@ pub mod HandsFree
 pub mod HandsKept
 pub mod JobRests
 pub mod Keeping
+pub mod LastItems
 pub mod Looking
 pub mod LowestPorts
 pub mod Payments

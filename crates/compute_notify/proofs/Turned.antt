@@ -333,12 +333,3 @@ may_be g e v (item.Recover r) fits = tt
 pub all_may : (g : TaskGraph) (e : Setting) (v : View) (xs : List Item) → FitsAll g e v xs → AllMayBeOver g xs
 all_may g e v [] fits = tt
 all_may g e v (x ∷ xs) fits = (may_be g e v x fits.0, all_may g e v xs fits.1)
-
-pub left_shorter : (xs : List Item) (x : Item) (ys : List Item) → length xs + 1 ≤ length (xs ++ x ∷ ys)
-left_shorter [] x ys = omega arith
-left_shorter (y ∷ xs) x ys = let a = left_shorter xs x ys in omega (arith, a)
-
--- the credit with which a task begins is never over
-pub some_next : (g : Graph) (p : List Strike) (xs left : List Item) → FromCredit xs → xs ≢ [] → IsNext g p xs left None → ⊥
-some_next g p [] left from some none_next = some refl
-some_next g p (x ∷ xs) left from some none_next = let a : is_over g p x ≡ false = ap (is_over g p) from in let b = none_next.0.0 in let d : true ≡ false = sym b ∙ a in cc

@@ -252,6 +252,12 @@ explored_after x lives (explored.Marked writer) = record { left = Some (item.Exp
 explored_after x lives (explored.Spent place told) = record { left = Some (item.Explore (record x { place = place; way = reaching.Start })); came = told_came told x.duty.row x.duty.key lives }
 explored_after x lives (explored.Ended told) = record { left = None; came = told_came told x.duty.row x.duty.key lives }
 
+-- an item that most of its turns only change
+abbrev pub stays_often : Item → Bool
+stays_often (item.Explore x) = true
+stays_often (item.Compute c) = true
+stays_often _ = false
+
 -- what a turn of a computing left and brought
 abbrev pub computed_after : Compute → ℕ → Computed → After
 computed_after c lives (computed.On p) = record { left = Some (item.Compute (record c { phase = p })); came = came.Nothing }

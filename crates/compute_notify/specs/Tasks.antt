@@ -152,6 +152,23 @@ abbrev pub IsNext : Graph → List Strike → List Item → List Item → Option
 IsNext g p xs left None = AllOver g p xs × (left ≡ [])
 IsNext g p xs left (Some x) = (gone : List Item) × (xs ≡ left ++ x ∷ gone) × (is_over g p x ≡ false) × AllOver g p gone
 
+-- the last of these items; of none, a credit
+abbrev pub last_item : List Item → Item
+last_item [] = item.Credit
+last_item (x ∷ []) = x
+last_item (x ∷ y ∷ ys) = last_item (y ∷ ys)
+
+-- all but the last
+abbrev pub but_last : List Item → List Item
+but_last [] = []
+but_last (x ∷ []) = []
+but_last (x ∷ y ∷ ys) = x ∷ but_last (y ∷ ys)
+
+-- the items, less those at the end that are over, if one is left
+abbrev pub FindsNext : Graph → List Strike → List Item → List Item → Bool → Type 0
+FindsNext g p xs now true = (now ≢ []) × IsNext g p xs (but_last now) (Some (last_item now))
+FindsNext g p xs now false = IsNext g p xs now None
+
 -- how much of the items is left; the block in hand is that of the last
 abbrev pub items_rest : Setting → List Strike → Option BlockCells → List Item → ℕ
 items_rest e p h [] = 0

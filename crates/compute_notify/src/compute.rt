@@ -1,4 +1,4 @@
-ghost use Rattle.std.specs.Prelude.{None, Some, [], length, take, ℕ, ◌+◌, ◌<◌, ◌≡◌, ◌≤◌, false};
+ghost use Rattle.std.specs.Prelude.{None, Some, [], length, take, ℕ, ◌+◌, ◌<◌, ◌≡◌, ◌≤◌, false, true};
 ghost use Rattle.compute_notify.specs.Eventing.{calls_after, compute_event, prepared, writing_event};
 ghost use Rattle.compute_notify.specs.Items.{Goes, Stands, computed_after, item_lines, is_spent};
 ghost use Rattle.compute_notify.specs.Resting.{FallsGood, LetsFall, after_rest, item_rest};
@@ -97,6 +97,21 @@ impl Compute {
                 let shown = Duty { row, key, life };
                 After::gone(Came::recover(shown, Cause::Descriptor, false, lives))
             }
+        }
+    }
+
+    /// Changes the computing, if its turn left it.
+    #[inline(always)]
+    pub(crate) fn keep(&mut self, told: &Computed) -> bool
+        ensures kept { result ≡ true → (lives : ℕ) → computed_after self.old lives told.now ≡ record { left = Some (Item.Compute self.new); came = Came.Nothing } }
+        ensures same { result ≡ false → self.new ≡ self.old }
+    {
+        match *told {
+            Computed::On { phase } => {
+                self.phase = phase;
+                true
+            }
+            _ => false,
         }
     }
 

@@ -1,4 +1,4 @@
-ghost use Rattle.std.specs.Prelude.{None, Some, [], ◌+◌, ◌-◌, ◌<◌, ◌≡◌, ◌≤◌, true};
+ghost use Rattle.std.specs.Prelude.{None, Some, [], ℕ, ◌+◌, ◌-◌, ◌<◌, ◌≡◌, ◌≤◌, false, true};
 ghost use Rattle.compute_notify.specs.Eventing.{explore_event, item_event};
 ghost use Rattle.compute_notify.specs.Items.{Goes, IsClaiming, Stands, explored_after, item_lines};
 ghost use Rattle.compute_notify.specs.Resting.{LetsFall, after_rest, explore_way_rest, item_rest};
@@ -130,6 +130,38 @@ impl Explore {
                 Came::told(told, row, key, lives),
             ),
             Explored::Ended { told } => After::gone(Came::told(told, row, key, lives)),
+        }
+    }
+
+    /// Changes the exploring, if its turn left it and brought nothing.
+    #[inline(always)]
+    pub(crate) fn keep(&mut self, told: &Explored) -> bool
+        ensures kept { result ≡ true → (lives : ℕ) → explored_after self.old lives told.now ≡ record { left = Some (Item.Explore self.new); came = Came.Nothing } }
+        ensures same { result ≡ false → self.new ≡ self.old }
+    {
+        match *told {
+            Explored::On { way } => {
+                self.way = way;
+                true
+            }
+            Explored::At { place } => {
+                self.place = place;
+                self.way = Way::Start;
+                true
+            }
+            Explored::Struck { made } => {
+                self.made = made;
+                true
+            }
+            Explored::Spent {
+                place,
+                told: Told::Spent { life: _ } | Told::Already { life: _ },
+            } => {
+                self.place = place;
+                self.way = Way::Start;
+                true
+            }
+            _ => false,
         }
     }
 

@@ -1,10 +1,10 @@
-ghost use Rattle.std.specs.Prelude.{None, Some, ◌≡◌};
-ghost use Rattle.compute_notify.specs.Items.{job_item, replaces, told_came};
+ghost use Rattle.std.specs.Prelude.{None, Some, ℕ, ◌≡◌, false, true};
+ghost use Rattle.compute_notify.specs.Items.{computed_after, explored_after, job_item, replaces, told_came};
 
 use crate::close::Close;
-use crate::compute::Compute;
+use crate::compute::{Compute, Computed};
 use crate::duty::Duty;
-use crate::explore::Explore;
+use crate::explore::{Explore, Explored};
 use crate::look::Look;
 use crate::notify::Notify;
 use crate::run::greatest_life;
@@ -89,6 +89,30 @@ impl Item {
             Job::Compute => Item::Compute {
                 compute: Compute::of(duty),
             },
+        }
+    }
+
+    /// Changes an exploring, if its turn left it and brought nothing.
+    #[inline(always)]
+    pub(crate) fn keep_explored(&mut self, told: &Explored) -> bool
+        ensures kept { result ≡ true → (x : Explore) (lives : ℕ) → self.old ≡ Item.Explore x → explored_after x lives told.now ≡ record { left = Some self.new; came = Came.Nothing } }
+        ensures same { result ≡ false → self.new ≡ self.old }
+    {
+        match self {
+            Item::Explore { explore } => explore.keep(told),
+            _ => false,
+        }
+    }
+
+    /// Changes a computing, if its turn left it.
+    #[inline(always)]
+    pub(crate) fn keep_computed(&mut self, told: &Computed) -> bool
+        ensures kept { result ≡ true → (x : Compute) (lives : ℕ) → self.old ≡ Item.Compute x → computed_after x lives told.now ≡ record { left = Some self.new; came = Came.Nothing } }
+        ensures same { result ≡ false → self.new ≡ self.old }
+    {
+        match self {
+            Item::Compute { compute } => compute.keep(told),
+            _ => false,
         }
     }
 }

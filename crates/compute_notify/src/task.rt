@@ -1,12 +1,12 @@
 //! The work of one job, with all that was met on the way.
 ghost use Rattle.std.specs.Prelude.{List, None, OnOk, Some, [], false, length, not, true, vec_capacity, ◌++◌, ◌+◌, ◌≡◌, ◌≢◌, ◌≤◌};
 ghost use Rattle.compute_notify.specs.Eventing.{item_calls, item_event, item_hints, item_prepared, steps_on};
-ghost use Rattle.compute_notify.specs.Items.{Goes, ItemSpends, Stands, is_over, is_spent, item_lines, job_item};
+ghost use Rattle.compute_notify.specs.Items.{Goes, ItemSpends, Stands, computed_after, explored_after, is_over, is_spent, item_lines, job_item, stays_often};
 ghost use Rattle.compute_notify.specs.Resting.{FallsGood, LeavesAbove, LetsFall, LooksAgain, after_rest, item_rest};
 ghost use Rattle.compute_notify.specs.Rooms.{AfterScratch, FitsScratch};
 ghost use Rattle.compute_notify.specs.Running.{Makes, Runs, SameKernel};
 ghost use Rattle.compute_notify.specs.Stepping.{HasStepped};
-ghost use Rattle.compute_notify.specs.Tasks.{AllMayBeOver, HasFewLeft, HasSpace, HasTurned, Holds, IsNew, IsNext, MayBeOver, NewCalls, SameTask, TaskScratch, TaskTells, after_items, came_items, ends_run, items_rest, some_count, some_list, task_items, task_rest, task_turn};
+ghost use Rattle.compute_notify.specs.Tasks.{AllMayBeOver, FindsNext, HasFewLeft, HasSpace, HasTurned, Holds, IsNew, IsNext, MayBeOver, NewCalls, SameTask, TaskScratch, TaskTells, after_items, but_last, came_items, ends_run, items_rest, last_item, some_count, some_list, task_items, task_rest, task_turn};
 ghost use Rattle.compute_notify.specs.Working.{AfterHand, FitsTop};
 ghost use Rattle.core_state.specs.Asked.{InEachGraphOf};
 ghost use Rattle.core_state.specs.Graph.{Setting};
@@ -14,6 +14,8 @@ ghost use Rattle.core_state.specs.declared.views.View.{View};
 ghost use Rattle.graph_model.specs.Graph.{Graph};
 ghost use Rattle.recovery.specs.Memory.{Remembers};
 
+use crate::compute::{Compute, Computed};
+use crate::explore::{Explore, Explored};
 use crate::item::{After, Came, Item};
 use crate::paying::{give_up, pay};
 use crate::replacing::replace;
@@ -108,24 +110,29 @@ fn is_over<G: TaskGraph>(item: &Item, terms: &Terms<'_, G>) -> bool
     }
 }
 
-// Takes the last item that has something left to do; those behind it go.
+// The last item.
 #[inline(always)]
-fn next<G: TaskGraph>(items: &mut Vec<Item>, terms: &Terms<'_, G>) -> Option<Item>
+fn last(items: &Vec<Item>) -> &Item
+    requires { items.now.items ≢ [] }
+    ensures { result.now ≡ last_item items.now.items }
+{
+    &items[items.len() - 1]
+}
+
+// Takes from the end what has nothing left to do; whether an item is left then.
+#[inline(always)]
+fn next<G: TaskGraph>(items: &mut Vec<Item>, terms: &Terms<'_, G>) -> bool
     requires { AllMayBeOver (G.graph terms.now.graph.now) items.old.items }
-    ensures next { InEachGraphOf (G.graph terms.now.graph.now) (λ r. IsNext r terms.now.plan.now items.old.items items.new.items result) }
+    ensures next { InEachGraphOf (G.graph terms.now.graph.now) (λ r. FindsNext r terms.now.plan.now items.old.items items.new.items result) }
     ensures capacity { vec_capacity items.new ≡ vec_capacity items.old }
 {
-    loop {
-        let popped = items.pop();
-        match &popped {
-            Some(item) => {
-                if !is_over(item, terms) {
-                    return popped;
-                }
-            }
-            None => return popped,
+    while !items.is_empty() {
+        if !is_over(last(items), terms) {
+            return true;
         }
+        items.pop();
     }
+    false
 }
 
 // What the turn of an item comes to for its task, of which this many items are left then.
@@ -173,19 +180,77 @@ fn put_after(items: &mut Vec<Item>, after: &After)
     }
 }
 
-// Puts what a turn left and brought, and tells what the turn comes to for the task.
+// Puts what the turn of the last item left and brought in its place, and tells what the turn comes to for the task.
 #[inline(always)]
 fn settle(items: &mut Vec<Item>, after: &After) -> Turn
-    requires { length items.old.items + 3 ≤ vec_capacity items.old }
-    ensures items { items.new.items ≡ items.old.items ++ after_items after.now }
+    requires some { items.old.items ≢ [] }
+    requires room { length items.old.items + 2 ≤ vec_capacity items.old }
+    ensures items { items.new.items ≡ but_last items.old.items ++ after_items after.now }
     ensures told { result ≡ task_turn after.now.came (length items.new.items) }
 {
+    items.pop();
     let left = items.len() + count_of(after);
     put_after(items, after);
     told_of(&after.came, left)
 }
 
-// The turn of an item, by its kind.
+// What a turn of the last item, an exploring, came to where something came of it.
+#[inline(never)]
+fn settle_explored(items: &mut Vec<Item>, explore: &Explore, told: Explored, lives: u32) -> Turn
+    requires some { items.old.items ≢ [] }
+    requires room { length items.old.items + 2 ≤ vec_capacity items.old }
+    ensures items { items.new.items ≡ but_last items.old.items ++ after_items (explored_after explore.now lives told) }
+    ensures told { result ≡ task_turn (explored_after explore.now lives told).came (length items.new.items) }
+{
+    settle(items, &explore.after(told, lives))
+}
+
+// The same of a computing.
+#[inline(never)]
+fn settle_computed(items: &mut Vec<Item>, compute: &Compute, told: Computed, lives: u32) -> Turn
+    requires some { items.old.items ≢ [] }
+    requires room { length items.old.items + 2 ≤ vec_capacity items.old }
+    ensures items { items.new.items ≡ but_last items.old.items ++ after_items (computed_after compute.now lives told) }
+    ensures told { result ≡ task_turn (computed_after compute.now lives told).came (length items.new.items) }
+{
+    settle(items, &compute.after(told, lives))
+}
+
+// An exploring that only goes on is changed where it lies.
+#[inline(always)]
+fn keep_explored(items: &mut Vec<Item>, explore: &Explore, told: Explored, lives: u32) -> Turn
+    requires some { items.old.items ≢ [] }
+    requires last { last_item items.old.items ≡ Item.Explore explore.now }
+    requires room { length items.old.items + 2 ≤ vec_capacity items.old }
+    ensures items { items.new.items ≡ but_last items.old.items ++ after_items (explored_after explore.now lives told) }
+    ensures told { result ≡ task_turn (explored_after explore.now lives told).came (length items.new.items) }
+{
+    let last = items.len() - 1;
+    if items[last].keep_explored(&told) {
+        Turn::Going
+    } else {
+        settle_explored(items, explore, told, lives)
+    }
+}
+
+// So is a computing.
+#[inline(always)]
+fn keep_computed(items: &mut Vec<Item>, compute: &Compute, told: Computed, lives: u32) -> Turn
+    requires some { items.old.items ≢ [] }
+    requires last { last_item items.old.items ≡ Item.Compute compute.now }
+    requires room { length items.old.items + 2 ≤ vec_capacity items.old }
+    ensures items { items.new.items ≡ but_last items.old.items ++ after_items (computed_after compute.now lives told) }
+    ensures told { result ≡ task_turn (computed_after compute.now lives told).came (length items.new.items) }
+{
+    let last = items.len() - 1;
+    if items[last].keep_computed(&told) {
+        Turn::Going
+    } else {
+        settle_computed(items, compute, told, lives)
+    }
+}
+
+// The turn of an item that is not changed where it lies, by its kind.
 fn turn_item<T: Steps, G: TaskGraph, Ke: Kernel>(
     item: &Item,
     steps: &mut T,
@@ -199,6 +264,7 @@ fn turn_item<T: Steps, G: TaskGraph, Ke: Kernel>(
     requires stands { Stands (G.graph terms.now.graph.now) (T.setting steps.old) (T.view steps.old) (item.now) }
     requires outcome { Makes (G.graph terms.now.graph.now) (Ke.outcome kernel.old) (Ke.fits kernel.old) (T.setting steps.old) }
     requires left { is_over (T.setting steps.old).graph terms.now.plan.now item.now ≡ false }
+    requires other { stays_often item.now ≡ false }
     requires top { FitsTop (T.setting steps.old) (T.view steps.old) hand.old item.now }
     requires scratch { FitsScratch (T.setting steps.old) (G.graph terms.now.graph.now) scratch.old item.now }
     requires calls { 1 ≤ Ke.spare kernel.old }
@@ -223,14 +289,7 @@ fn turn_item<T: Steps, G: TaskGraph, Ke: Kernel>(
 {
     match *item {
         Item::Credit => give_up(steps, terms),
-        Item::Explore { explore } => {
-            let explored = explore.turn(steps, terms, hand);
-            explore.after(explored, terms.lives)
-        }
-        Item::Compute { compute } => {
-            let computed = compute.turn(steps, terms, hand, scratch, kernel);
-            compute.after(computed, terms.lives)
-        }
+        Item::Explore { explore: _ } | Item::Compute { compute: _ } => unreachable!(),
         Item::Close { close } => close.turn(steps, terms, hand),
         Item::Notify { notify } => notify.turn(steps, terms),
         Item::Look { look } => look.turn(steps, terms),
@@ -315,37 +374,39 @@ impl Task {
         }
     }
 
-    // Turns an item that was taken from the others, and puts what it leaves on them.
-    fn turn_next<T: Steps, G: TaskGraph, Ke: Kernel>(
+    // Turns the last item, which goes; what it leaves is put in its place.
+    #[inline(never)]
+    fn turn_other<T: Steps, G: TaskGraph, Ke: Kernel>(
         &mut self,
-        item: &Item,
         steps: &mut T,
         run: &mut Run<'_, G, Ke>,
     ) -> Turn
         requires runs { Runs (G.graph run.old.graph.now) run.old.plan.now run.old.lives (T.setting steps.old) }
-        requires stands { Stands (G.graph run.old.graph.now) (T.setting steps.old) (T.view steps.old) item.now }
+        requires stands { Stands (G.graph run.old.graph.now) (T.setting steps.old) (T.view steps.old) (last_item self.old.items.items) }
         requires outcome { Makes (G.graph run.old.graph.now) (Ke.outcome run.old.kernel.now) (Ke.fits run.old.kernel.now) (T.setting steps.old) }
-        requires left { is_over (T.setting steps.old).graph run.old.plan.now item.now ≡ false }
-        requires top { FitsTop (T.setting steps.old) (T.view steps.old) self.old.hand item.now }
-        requires scratch { FitsScratch (T.setting steps.old) (G.graph run.old.graph.now) run.old.scratch.now item.now }
+        requires left { is_over (T.setting steps.old).graph run.old.plan.now (last_item self.old.items.items) ≡ false }
+        requires top { FitsTop (T.setting steps.old) (T.view steps.old) self.old.hand (last_item self.old.items.items) }
+        requires scratch { FitsScratch (T.setting steps.old) (G.graph run.old.graph.now) run.old.scratch.now (last_item self.old.items.items) }
+        requires some { self.old.items.items ≢ [] }
+        requires other { stays_often (last_item self.old.items.items) ≡ false }
         requires begun { self.old.begins ≡ None }
-        requires space { length self.old.items.items + 3 ≤ vec_capacity self.old.items }
+        requires space { length self.old.items.items + 2 ≤ vec_capacity self.old.items }
         requires calls { 1 ≤ Ke.spare run.old.kernel.now }
         requires hints { length run.old.hints.now ≤ 2 }
         requires room { 2 ≤ T.KeyWords.spare steps.old }
-        ensures turned { HasTurned (G.graph run.old.graph.now) (T.setting steps.old) (T.view steps.old) (T.view steps.new) item.now self.old.items.items self.new run.new.scratch.now result }
-        ensures calls { Ke.calls run.new.kernel.now ≡ item_calls (T.setting steps.old).graph item.now (Ke.calls run.old.kernel.now) }
+        ensures turned { HasTurned (G.graph run.old.graph.now) (T.setting steps.old) (T.view steps.old) (T.view steps.new) (last_item self.old.items.items) (but_last self.old.items.items) self.new run.new.scratch.now result }
+        ensures calls { Ke.calls run.new.kernel.now ≡ item_calls (T.setting steps.old).graph (last_item self.old.items.items) (Ke.calls run.old.kernel.now) }
         ensures kernel { SameKernel (Ke.outcome run.old.kernel.now) (Ke.outcome run.new.kernel.now) (Ke.fits run.old.kernel.now) (Ke.fits run.new.kernel.now) }
         ensures kernel_room { Ke.spare run.old.kernel.now ≤ Ke.spare run.new.kernel.now + 1 }
-        ensures hints { run.new.hints.now ≡ item_hints item.now run.old.hints.now }
-        ensures spent { ends_run result ≡ not (steps_on item.now) }
-        ensures ends { item.now ≡ Item.Credit → self.new.items.items ≡ self.old.items.items }
-        ensures still { steps_on item.now ≡ false → steps.new ≡ steps.old }
+        ensures hints { run.new.hints.now ≡ item_hints (last_item self.old.items.items) run.old.hints.now }
+        ensures spent { ends_run result ≡ not (steps_on (last_item self.old.items.items)) }
+        ensures ends { last_item self.old.items.items ≡ Item.Credit → self.new.items.items ≡ but_last self.old.items.items }
+        ensures still { steps_on (last_item self.old.items.items) ≡ false → steps.new ≡ steps.old }
         ensures knows { Remembers (T.view steps.old) (T.view steps.new) }
-        ensures step { steps_on item.now ≡ true → HasStepped T.setting T.view T.KeyWords.made T.KeyWords.spare T.KeyWords.last T.shown T.happened T.lender T.others (item_prepared (T.setting steps.old).graph item.now) (item_event (T.setting steps.old) (T.view steps.old) run.old.plan.now self.old.hand self.new.hand item.now) steps.old steps.new }
-        ensures rest { steps_on item.now ≡ true → (left : List Item) → self.new.items.items ≡ self.old.items.items ++ left → LetsFall (T.setting steps.old) run.old.plan.now (item_event (T.setting steps.old) (T.view steps.old) run.old.plan.now self.old.hand self.new.hand item.now) (T.shown steps.new).1 (item_rest (T.setting steps.old) run.old.plan.now self.old.hand item.now) (items_rest (T.setting steps.old) run.old.plan.now self.new.hand left) }
-        ensures good { (left : List Item) → self.new.items.items ≡ self.old.items.items ++ left → FallsGood (T.setting steps.old) self.old.hand item.now (item_rest (T.setting steps.old) run.old.plan.now self.old.hand item.now) (items_rest (T.setting steps.old) run.old.plan.now self.new.hand left) }
-        ensures again { LeavesAbove (T.setting steps.old).graph run.old.plan.now (T.shown steps.new).1 item.now self.old.items.items self.new.items.items }
+        ensures step { steps_on (last_item self.old.items.items) ≡ true → HasStepped T.setting T.view T.KeyWords.made T.KeyWords.spare T.KeyWords.last T.shown T.happened T.lender T.others (item_prepared (T.setting steps.old).graph (last_item self.old.items.items)) (item_event (T.setting steps.old) (T.view steps.old) run.old.plan.now self.old.hand self.new.hand (last_item self.old.items.items)) steps.old steps.new }
+        ensures rest { steps_on (last_item self.old.items.items) ≡ true → (left : List Item) → self.new.items.items ≡ but_last self.old.items.items ++ left → LetsFall (T.setting steps.old) run.old.plan.now (item_event (T.setting steps.old) (T.view steps.old) run.old.plan.now self.old.hand self.new.hand (last_item self.old.items.items)) (T.shown steps.new).1 (item_rest (T.setting steps.old) run.old.plan.now self.old.hand (last_item self.old.items.items)) (items_rest (T.setting steps.old) run.old.plan.now self.new.hand left) }
+        ensures good { (left : List Item) → self.new.items.items ≡ but_last self.old.items.items ++ left → FallsGood (T.setting steps.old) self.old.hand (last_item self.old.items.items) (item_rest (T.setting steps.old) run.old.plan.now self.old.hand (last_item self.old.items.items)) (items_rest (T.setting steps.old) run.old.plan.now self.new.hand left) }
+        ensures again { LeavesAbove (T.setting steps.old).graph run.old.plan.now (T.shown steps.new).1 (last_item self.old.items.items) (but_last self.old.items.items) self.new.items.items }
         ensures same_graph { run.new.graph.now ≡ run.old.graph.now }
         ensures same_plan { run.new.plan.now ≡ run.old.plan.now }
         ensures same_lives { run.new.lives ≡ run.old.lives }
@@ -358,18 +419,75 @@ impl Task {
             plan: run.plan,
             lives: run.lives,
         };
-        settle(
-            &mut self.items,
-            &turn_item(
-                item,
-                steps,
-                &terms,
-                &mut self.hand,
-                run.scratch,
-                run.kernel,
-                run.hints,
-            ),
-        )
+        let after = turn_item(
+            last(&self.items),
+            steps,
+            &terms,
+            &mut self.hand,
+            run.scratch,
+            run.kernel,
+            run.hints,
+        );
+        settle(&mut self.items, &after)
+    }
+
+    // Turns the last item. One that only goes on is changed where it lies.
+    #[inline(always)]
+    fn turn_next<T: Steps, G: TaskGraph, Ke: Kernel>(
+        &mut self,
+        steps: &mut T,
+        run: &mut Run<'_, G, Ke>,
+    ) -> Turn
+        requires runs { Runs (G.graph run.old.graph.now) run.old.plan.now run.old.lives (T.setting steps.old) }
+        requires stands { Stands (G.graph run.old.graph.now) (T.setting steps.old) (T.view steps.old) (last_item self.old.items.items) }
+        requires outcome { Makes (G.graph run.old.graph.now) (Ke.outcome run.old.kernel.now) (Ke.fits run.old.kernel.now) (T.setting steps.old) }
+        requires left { is_over (T.setting steps.old).graph run.old.plan.now (last_item self.old.items.items) ≡ false }
+        requires top { FitsTop (T.setting steps.old) (T.view steps.old) self.old.hand (last_item self.old.items.items) }
+        requires scratch { FitsScratch (T.setting steps.old) (G.graph run.old.graph.now) run.old.scratch.now (last_item self.old.items.items) }
+        requires some { self.old.items.items ≢ [] }
+        requires begun { self.old.begins ≡ None }
+        requires space { length self.old.items.items + 2 ≤ vec_capacity self.old.items }
+        requires calls { 1 ≤ Ke.spare run.old.kernel.now }
+        requires hints { length run.old.hints.now ≤ 2 }
+        requires room { 2 ≤ T.KeyWords.spare steps.old }
+        ensures turned { HasTurned (G.graph run.old.graph.now) (T.setting steps.old) (T.view steps.old) (T.view steps.new) (last_item self.old.items.items) (but_last self.old.items.items) self.new run.new.scratch.now result }
+        ensures calls { Ke.calls run.new.kernel.now ≡ item_calls (T.setting steps.old).graph (last_item self.old.items.items) (Ke.calls run.old.kernel.now) }
+        ensures kernel { SameKernel (Ke.outcome run.old.kernel.now) (Ke.outcome run.new.kernel.now) (Ke.fits run.old.kernel.now) (Ke.fits run.new.kernel.now) }
+        ensures kernel_room { Ke.spare run.old.kernel.now ≤ Ke.spare run.new.kernel.now + 1 }
+        ensures hints { run.new.hints.now ≡ item_hints (last_item self.old.items.items) run.old.hints.now }
+        ensures spent { ends_run result ≡ not (steps_on (last_item self.old.items.items)) }
+        ensures ends { last_item self.old.items.items ≡ Item.Credit → self.new.items.items ≡ but_last self.old.items.items }
+        ensures still { steps_on (last_item self.old.items.items) ≡ false → steps.new ≡ steps.old }
+        ensures knows { Remembers (T.view steps.old) (T.view steps.new) }
+        ensures step { steps_on (last_item self.old.items.items) ≡ true → HasStepped T.setting T.view T.KeyWords.made T.KeyWords.spare T.KeyWords.last T.shown T.happened T.lender T.others (item_prepared (T.setting steps.old).graph (last_item self.old.items.items)) (item_event (T.setting steps.old) (T.view steps.old) run.old.plan.now self.old.hand self.new.hand (last_item self.old.items.items)) steps.old steps.new }
+        ensures rest { steps_on (last_item self.old.items.items) ≡ true → (left : List Item) → self.new.items.items ≡ but_last self.old.items.items ++ left → LetsFall (T.setting steps.old) run.old.plan.now (item_event (T.setting steps.old) (T.view steps.old) run.old.plan.now self.old.hand self.new.hand (last_item self.old.items.items)) (T.shown steps.new).1 (item_rest (T.setting steps.old) run.old.plan.now self.old.hand (last_item self.old.items.items)) (items_rest (T.setting steps.old) run.old.plan.now self.new.hand left) }
+        ensures good { (left : List Item) → self.new.items.items ≡ but_last self.old.items.items ++ left → FallsGood (T.setting steps.old) self.old.hand (last_item self.old.items.items) (item_rest (T.setting steps.old) run.old.plan.now self.old.hand (last_item self.old.items.items)) (items_rest (T.setting steps.old) run.old.plan.now self.new.hand left) }
+        ensures again { LeavesAbove (T.setting steps.old).graph run.old.plan.now (T.shown steps.new).1 (last_item self.old.items.items) (but_last self.old.items.items) self.new.items.items }
+        ensures same_graph { run.new.graph.now ≡ run.old.graph.now }
+        ensures same_plan { run.new.plan.now ≡ run.old.plan.now }
+        ensures same_lives { run.new.lives ≡ run.old.lives }
+        ensures same_kernel { run.new.kernel.ghost_name ≡ run.old.kernel.ghost_name }
+        ensures same_scratch { run.new.scratch.ghost_name ≡ run.old.scratch.ghost_name }
+        ensures same_hints { run.new.hints.ghost_name ≡ run.old.hints.ghost_name }
+    {
+        let terms = Terms {
+            graph: run.graph,
+            plan: run.plan,
+            lives: run.lives,
+        };
+        match last(&self.items) {
+            Item::Explore { explore } => {
+                let explore = *explore;
+                let told = explore.turn(steps, &terms, &mut self.hand);
+                keep_explored(&mut self.items, &explore, told, run.lives)
+            }
+            Item::Compute { compute } => {
+                let compute = *compute;
+                let told = compute.turn(steps, &terms, &mut self.hand, run.scratch, run.kernel);
+                keep_computed(&mut self.items, &compute, told, run.lives)
+            }
+            _ => self.turn_other(steps, run),
+        }
     }
 
     /// One step of the last item that has something left to do; no step where the life that it replaces is the
@@ -413,9 +531,10 @@ impl Task {
             plan: run.plan,
             lives: run.lives,
         };
-        match next(&mut self.items, &terms) {
-            Some(item) => self.turn_next(&item, steps, run),
-            None => Turn::Done,
+        if next(&mut self.items, &terms) {
+            self.turn_next(steps, run)
+        } else {
+            Turn::Done
         }
     }
 }

@@ -1,23 +1,28 @@
-use Rattle.std.proofs.Common.{◌++◌, ap, option_to_list, refl, subst, sym, ◌∙◌}
-use Rattle.core_state.specs.Asked.{InEachGraphOf}
-use Rattle.compute_notify.proofs.Popping.{found_next, may_first, may_last, none_popped, one_popped}
-use Rattle.compute_notify.specs.Tasks.{AllMayBeOver, IsNext}
+use Rattle.std.proofs.Common.{ap, refl, subst, sym, ◌∙◌}
+use Rattle.compute_notify.proofs.LastItems.{some_items, take_rest}
+use Rattle.compute_notify.proofs.Popping.{found_next, may_last, may_rest, none_popped, one_popped}
+use Rattle.compute_notify.specs.Items.{is_over}
+use Rattle.compute_notify.specs.Tasks.{MayBeOver}
 use Rattle.compute_notify.proofs.task.next.Goals as goal
 
-pub loop-item-init : goal.loop-item-init
-loop-item-init g c = (refl, c.requires, none_popped _ _ _)
+pub loop-items-init : goal.loop-items-init
+loop-items-init g c = (refl, c.requires, none_popped _ _ _)
 
 pub is_over-requires-after_bounds : goal.is_over-requires-after_bounds
-is_over-requires-after_bounds g c κs within = may_last (g.G.TaskGraph.graph c.args.terms.now.graph.now) c.args.terms.now.plan.now c.pop-popped.new.self.items c.in-Some.item (subst (AllMayBeOver (g.G.TaskGraph.graph c.args.terms.now.graph.now)) (c.pop-popped.ensures.items ∙ ap (λ o. c.pop-popped.new.self.items ++ option_to_list o) c.in-Some.is) c.loop-item.invariant.1)
-
-pub loop-item-preserved : goal.loop-item-preserved
-loop-item-preserved g c = let t = g.G.TaskGraph.graph c.args.terms.now.graph.now in let p = c.args.terms.now.plan.now in (
-  c.pop-popped.ensures.capacity ∙ c.loop-item.invariant.0,
-  may_first t p c.pop-popped.new.self.items c.in-Some.item (subst (AllMayBeOver t) (c.pop-popped.ensures.items ∙ ap (λ o. c.pop-popped.new.self.items ++ option_to_list o) c.in-Some.is) c.loop-item.invariant.1),
-  one_popped t p c.args.items.now.items c.loop-item.items.items c.pop-popped.new.self.items c.in-Some.item c.loop-item.invariant.2 (c.pop-popped.ensures.items ∙ ap (λ o. c.pop-popped.new.self.items ++ option_to_list o) c.in-Some.is) (λ outcome r is. sym c.if-not-is_over.false ∙ c.is_over.ensures outcome r is),
-)
+is_over-requires-after_bounds g c κs within = let t = g.G.TaskGraph.graph c.args.terms.now.graph.now in let now = c.loop-items.items.items in
+    let some = some_items c.loop-items.items.len now c.is_empty.result c.loop-items.items.ok.0 c.is_empty.ensures c.loop-items-test.true in
+    subst (MayBeOver t) (sym c.last.ensures) (may_last t c.args.terms.now.plan.now now some c.loop-items.invariant.1)
 
 pub returns-then-not-is_over-clause-next : goal.returns-then-not-is_over-clause-next
-returns-then-not-is_over-clause-next g c = let t = g.G.TaskGraph.graph c.args.terms.now.graph.now in let p = c.args.terms.now.plan.now in
-    subst (λ o. InEachGraphOf t (λ r. IsNext r p c.args.items.now.items c.pop-popped.new.self.items o)) (sym c.in-Some.is)
-    (found_next t p c.args.items.now.items c.loop-item.items.items c.pop-popped.new.self.items c.in-Some.item c.loop-item.invariant.2 (c.pop-popped.ensures.items ∙ ap (λ o. c.pop-popped.new.self.items ++ option_to_list o) c.in-Some.is) (λ outcome r is. sym c.if-not-is_over.true ∙ c.is_over.ensures outcome r is))
+returns-then-not-is_over-clause-next g c = let t = g.G.TaskGraph.graph c.args.terms.now.graph.now in let p = c.args.terms.now.plan.now in let now = c.loop-items.items.items in
+    let some = some_items c.loop-items.items.len now c.is_empty.result c.loop-items.items.ok.0 c.is_empty.ensures c.loop-items-test.true in
+    found_next t p c.args.items.now.items now c.loop-items.invariant.2 some (λ outcome r is. sym c.if-not-is_over.true ∙ c.is_over.ensures outcome r is ∙ ap (is_over r p) c.last.ensures)
+
+pub loop-items-preserved : goal.loop-items-preserved
+loop-items-preserved g c = let t = g.G.TaskGraph.graph c.args.terms.now.graph.now in let p = c.args.terms.now.plan.now in let now = c.loop-items.items.items in
+    let some = some_items c.loop-items.items.len now c.is_empty.result c.loop-items.items.ok.0 c.is_empty.ensures c.loop-items-test.true in
+    let rest = c.pop.ensures.rest ∙ take_rest c.loop-items.items.len now c.loop-items.items.ok.0 in (
+  c.pop.ensures.capacity ∙ c.loop-items.invariant.0,
+  may_rest t p now c.pop.new.self.items some rest c.loop-items.invariant.1,
+  one_popped t p c.args.items.now.items now c.loop-items.invariant.2 some c.pop.new.self.items rest (λ outcome r is. sym c.if-not-is_over.false ∙ c.is_over.ensures outcome r is ∙ ap (is_over r p) c.last.ensures),
+)

@@ -3,8 +3,8 @@ use Rattle.compute_notify.specs.Tasks.{AllMayBeOver}
 use Rattle.compute_notify.proofs.Popping.{IsPopped}
 use Rattle.compute_notify.proofs.task.next.Given as goal
 
-abbrev pub invariant-loop-item : goal.invariant-loop-item
-invariant-loop-item g l = (vec_capacity l.items ≡ vec_capacity l.initial.items) × AllMayBeOver (g.G.TaskGraph.graph l.terms.graph.now) l.items.items × IsPopped (g.G.TaskGraph.graph l.terms.graph.now) l.terms.plan.now l.initial.items.items l.items.items
+abbrev pub invariant-loop-items : goal.invariant-loop-items
+invariant-loop-items g l = (vec_capacity l.items ≡ vec_capacity l.initial.items) × AllMayBeOver (g.G.TaskGraph.graph l.terms.graph.now) l.items.items × IsPopped (g.G.TaskGraph.graph l.terms.graph.now) l.terms.plan.now l.initial.items.items l.items.items
 
-abbrev pub decreases-loop-item : goal.decreases-loop-item
-decreases-loop-item g l = length l.items.items
+abbrev pub decreases-loop-items : goal.decreases-loop-items
+decreases-loop-items g l = length l.items.items

@@ -1,15 +1,15 @@
 use Rattle.std.proofs.Common.{◌≡◌, ℕ, false, not, ap, refl, subst, sym, ◌∙◌}
 use Rattle.recovery.specs.Recovering.{is_last, is_over as is_passed, makes_step}
 use Rattle.compute_notify.specs.Eventing.{item_calls, item_event, item_hints, item_prepared, steps_on}
-use Rattle.compute_notify.specs.Items.{Goes, ItemSpends, Stands, computed_after, explored_after, is_over, is_spent, item_lines}
+use Rattle.compute_notify.specs.Items.{Goes, ItemSpends, Stands, is_over, is_spent, item_lines}
 use Rattle.compute_notify.specs.Resting.{FallsGood, LetsFall, LooksAgain, after_rest, item_rest}
-use Rattle.compute_notify.specs.Rooms.{AfterScratch, FitsScratch, is_bare, is_plain}
+use Rattle.compute_notify.specs.Rooms.{is_bare}
 use Rattle.compute_notify.specs.Stepping.{HasStepped}
 use Rattle.compute_notify.specs.Tasks.{after_items}
 use Rattle.compute_notify.specs.Working.{AfterHand, FitsTop}
 use Rattle.compute_notify.specs.declared.item.After.{After}
 use Rattle.compute_notify.specs.declared.item.Item.TheVariants as item
-use Rattle.compute_notify.proofs.BelowStrikes.{by_truth, close_row, compute_row, owe_row, prepared_knows, same_knows, stepped_knows}
+use Rattle.compute_notify.proofs.BelowStrikes.{by_truth, close_row, owe_row, same_knows, stepped_knows}
 use Rattle.compute_notify.proofs.HandsFree.{after_free}
 use Rattle.compute_notify.proofs.HandsKept.{last_stops, look_hands, notify_hands, owe_hands, recover_hands, some_ports, stepped_free}
 use Rattle.compute_notify.proofs.Plain.{bare_scratch, plain_bare, plain_unspent}
@@ -62,110 +62,6 @@ returns-in-Credit-clause-knows g c = stepped_knows g.T.KeyWords.spare c.give_up.
 pub give_up-requires-clause-stands : goal.give_up-requires-clause-stands
 give_up-requires-clause-stands g c κs within = let e = g.T.Steps.setting c.args.steps.now in let v = g.T.Steps.view c.args.steps.now in let p = c.args.terms.now.plan.now in let t = g.G.TaskGraph.graph c.args.terms.now.graph.now in let h = c.args.hand.now in
     subst (Stands t e v) c.in-Credit.is c.requires.stands
-
-pub returns-in-Explore-clause-goes : goal.returns-in-Explore-clause-goes
-returns-in-Explore-clause-goes g c = let e = g.T.Steps.setting c.args.steps.now in let v = g.T.Steps.view c.args.steps.now in let p = c.args.terms.now.plan.now in let t = g.G.TaskGraph.graph c.args.terms.now.graph.now in let h = c.args.hand.now in
-    subst (λ a. Goes t e v (g.T.Steps.view c.turn-explored.new.steps) (item_lines e.graph c.args.item.now) a) (sym c.after.ensures) (subst (λ x. Goes t e v (g.T.Steps.view c.turn-explored.new.steps) (item_lines e.graph x) (explored_after c.in-Explore.explore c.args.terms.now.lives c.turn-explored.result)) (sym c.in-Explore.is) c.turn-explored.ensures.goes)
-
-pub returns-in-Explore-clause-top : goal.returns-in-Explore-clause-top
-returns-in-Explore-clause-top g c = subst (AfterHand (g.T.Steps.setting c.args.steps.now) (g.T.Steps.view c.turn-explored.new.steps) c.turn-explored.new.hand) (sym c.after.ensures) c.turn-explored.ensures.top
-
-pub returns-in-Explore-clause-scratch : goal.returns-in-Explore-clause-scratch
-returns-in-Explore-clause-scratch g c = let e = g.T.Steps.setting c.args.steps.now in let v = g.T.Steps.view c.args.steps.now in let p = c.args.terms.now.plan.now in let t = g.G.TaskGraph.graph c.args.terms.now.graph.now in let h = c.args.hand.now in
-    bare_scratch e t c.args.scratch.now (scratch_room e t c.args.scratch.now c.args.item.now c.requires.scratch) c.after.result (ap is_bare c.after.ensures ∙ plain_bare (explored_after c.in-Explore.explore c.args.terms.now.lives c.turn-explored.result) c.turn-explored.ensures.plain)
-
-pub returns-in-Explore-clause-hints : goal.returns-in-Explore-clause-hints
-returns-in-Explore-clause-hints g c = ap (λ x. item_hints x c.args.hints.now) (sym c.in-Explore.is)
-
-pub returns-in-Explore-clause-calls : goal.returns-in-Explore-clause-calls
-returns-in-Explore-clause-calls g c = ap (λ x. item_calls (g.T.Steps.setting c.args.steps.now).graph x (g.Ke.Kernel.calls c.args.kernel.now)) (sym c.in-Explore.is)
-
-pub returns-in-Explore-clause-spent : goal.returns-in-Explore-clause-spent
-returns-in-Explore-clause-spent g c = plain_unspent c.after.result (ap is_plain c.after.ensures ∙ c.turn-explored.ensures.plain) ∙ ap (λ x. not (steps_on x)) (sym c.in-Explore.is)
-
-pub returns-in-Explore-clause-cause : goal.returns-in-Explore-clause-cause
-returns-in-Explore-clause-cause g c = subst (λ x. ItemSpends (g.T.Steps.setting c.args.steps.now) x c.after.result.came) (sym c.in-Explore.is) (plain_unspent c.after.result (ap is_plain c.after.ensures ∙ c.turn-explored.ensures.plain))
-
-pub returns-in-Explore-clause-still : goal.returns-in-Explore-clause-still
-returns-in-Explore-clause-still g c off = absurd (let a = sym (ap steps_on c.in-Explore.is) ∙ off in cc)
-
-pub returns-in-Explore-clause-step : goal.returns-in-Explore-clause-step
-returns-in-Explore-clause-step g c on = let e = g.T.Steps.setting c.args.steps.now in let v = g.T.Steps.view c.args.steps.now in let p = c.args.terms.now.plan.now in let t = g.G.TaskGraph.graph c.args.terms.now.graph.now in let h = c.args.hand.now in
-    subst (λ x. HasStepped g.T.Steps.setting g.T.Steps.view g.T.KeyWords.made g.T.KeyWords.spare g.T.KeyWords.last g.T.Steps.shown g.T.Steps.happened g.T.Steps.lender g.T.Steps.others (item_prepared e.graph x) (item_event e v p h c.turn-explored.new.hand x) c.args.steps.now c.turn-explored.new.steps) (sym c.in-Explore.is) c.turn-explored.ensures.step
-
-pub returns-in-Explore-clause-rest : goal.returns-in-Explore-clause-rest
-returns-in-Explore-clause-rest g c on = let e = g.T.Steps.setting c.args.steps.now in let v = g.T.Steps.view c.args.steps.now in let p = c.args.terms.now.plan.now in let t = g.G.TaskGraph.graph c.args.terms.now.graph.now in let h = c.args.hand.now in
-    let n : ℕ = (g.T.Steps.shown c.turn-explored.new.steps).1 in
-    subst (λ a. LetsFall e p (item_event e v p h c.turn-explored.new.hand c.args.item.now) n (item_rest e p h c.args.item.now) (after_rest e p c.turn-explored.new.hand a)) (sym c.after.ensures) (subst (λ x. LetsFall e p (item_event e v p h c.turn-explored.new.hand x) n (item_rest e p h x) (after_rest e p c.turn-explored.new.hand (explored_after c.in-Explore.explore c.args.terms.now.lives c.turn-explored.result))) (sym c.in-Explore.is)
-    c.turn-explored.ensures.rest)
-
-pub returns-in-Explore-clause-ends : goal.returns-in-Explore-clause-ends
-returns-in-Explore-clause-ends g c credit = absurd (let a = sym c.in-Explore.is ∙ credit in cc)
-
-pub returns-in-Explore-clause-knows : goal.returns-in-Explore-clause-knows
-returns-in-Explore-clause-knows g c = c.turn-explored.ensures.knows
-
-pub turn-explored-requires-clause-stands : goal.turn-explored-requires-clause-stands
-turn-explored-requires-clause-stands g c κs within = let e = g.T.Steps.setting c.args.steps.now in let v = g.T.Steps.view c.args.steps.now in let p = c.args.terms.now.plan.now in let t = g.G.TaskGraph.graph c.args.terms.now.graph.now in let h = c.args.hand.now in
-    subst (Stands t e v) c.in-Explore.is c.requires.stands
-
-pub turn-explored-requires-clause-top : goal.turn-explored-requires-clause-top
-turn-explored-requires-clause-top g c κs within = let e = g.T.Steps.setting c.args.steps.now in let v = g.T.Steps.view c.args.steps.now in let p = c.args.terms.now.plan.now in let t = g.G.TaskGraph.graph c.args.terms.now.graph.now in let h = c.args.hand.now in
-    subst (FitsTop e v h) c.in-Explore.is c.requires.top
-
-pub returns-in-Compute-clause-goes : goal.returns-in-Compute-clause-goes
-returns-in-Compute-clause-goes g c = let e = g.T.Steps.setting c.args.steps.now in let v = g.T.Steps.view c.args.steps.now in let p = c.args.terms.now.plan.now in let t = g.G.TaskGraph.graph c.args.terms.now.graph.now in let h = c.args.hand.now in
-    subst (λ a. Goes t e v (g.T.Steps.view c.turn-computed.new.steps) (item_lines e.graph c.args.item.now) a) (sym c.after-in-Compute.ensures) (subst (λ x. Goes t e v (g.T.Steps.view c.turn-computed.new.steps) (item_lines e.graph x) (computed_after c.in-Compute.compute c.args.terms.now.lives c.turn-computed.result)) (sym c.in-Compute.is) c.turn-computed.ensures.goes)
-
-pub returns-in-Compute-clause-top : goal.returns-in-Compute-clause-top
-returns-in-Compute-clause-top g c = subst (AfterHand (g.T.Steps.setting c.args.steps.now) (g.T.Steps.view c.turn-computed.new.steps) c.turn-computed.new.hand) (sym c.after-in-Compute.ensures) c.turn-computed.ensures.top
-
-pub returns-in-Compute-clause-scratch : goal.returns-in-Compute-clause-scratch
-returns-in-Compute-clause-scratch g c = subst (AfterScratch (g.T.Steps.setting c.args.steps.now) (g.G.TaskGraph.graph c.args.terms.now.graph.now) c.turn-computed.new.scratch) (sym c.after-in-Compute.ensures) c.turn-computed.ensures.scratch
-
-pub returns-in-Compute-clause-hints : goal.returns-in-Compute-clause-hints
-returns-in-Compute-clause-hints g c = ap (λ x. item_hints x c.args.hints.now) (sym c.in-Compute.is)
-
-pub returns-in-Compute-clause-calls : goal.returns-in-Compute-clause-calls
-returns-in-Compute-clause-calls g c = c.turn-computed.ensures.calls ∙ ap (λ x. item_calls (g.T.Steps.setting c.args.steps.now).graph x (g.Ke.Kernel.calls c.args.kernel.now)) (sym c.in-Compute.is)
-
-pub returns-in-Compute-clause-spent : goal.returns-in-Compute-clause-spent
-returns-in-Compute-clause-spent g c = (ap (λ (a : After). is_spent a.came) c.after-in-Compute.ensures ∙ c.turn-computed.ensures.spent) ∙ ap (λ x. not (steps_on x)) (sym c.in-Compute.is)
-
-pub returns-in-Compute-clause-cause : goal.returns-in-Compute-clause-cause
-returns-in-Compute-clause-cause g c = subst (λ x. ItemSpends (g.T.Steps.setting c.args.steps.now) x c.after-in-Compute.result.came) (sym c.in-Compute.is) ((ap (λ (a : After). is_spent a.came) c.after-in-Compute.ensures ∙ c.turn-computed.ensures.spent))
-
-pub returns-in-Compute-clause-still : goal.returns-in-Compute-clause-still
-returns-in-Compute-clause-still g c off = absurd (let a = sym (ap steps_on c.in-Compute.is) ∙ off in cc)
-
-pub returns-in-Compute-clause-step : goal.returns-in-Compute-clause-step
-returns-in-Compute-clause-step g c on = let e = g.T.Steps.setting c.args.steps.now in let v = g.T.Steps.view c.args.steps.now in let p = c.args.terms.now.plan.now in let t = g.G.TaskGraph.graph c.args.terms.now.graph.now in let h = c.args.hand.now in
-    subst (λ x. HasStepped g.T.Steps.setting g.T.Steps.view g.T.KeyWords.made g.T.KeyWords.spare g.T.KeyWords.last g.T.Steps.shown g.T.Steps.happened g.T.Steps.lender g.T.Steps.others (item_prepared e.graph x) (item_event e v p h c.turn-computed.new.hand x) c.args.steps.now c.turn-computed.new.steps) (sym c.in-Compute.is) c.turn-computed.ensures.step
-
-pub returns-in-Compute-clause-rest : goal.returns-in-Compute-clause-rest
-returns-in-Compute-clause-rest g c on = let e = g.T.Steps.setting c.args.steps.now in let v = g.T.Steps.view c.args.steps.now in let p = c.args.terms.now.plan.now in let t = g.G.TaskGraph.graph c.args.terms.now.graph.now in let h = c.args.hand.now in
-    let n : ℕ = (g.T.Steps.shown c.turn-computed.new.steps).1 in
-    subst (λ a. LetsFall e p (item_event e v p h c.turn-computed.new.hand c.args.item.now) n (item_rest e p h c.args.item.now) (after_rest e p c.turn-computed.new.hand a)) (sym c.after-in-Compute.ensures) (subst (λ x. LetsFall e p (item_event e v p h c.turn-computed.new.hand x) n (item_rest e p h x) (after_rest e p c.turn-computed.new.hand (computed_after c.in-Compute.compute c.args.terms.now.lives c.turn-computed.result))) (sym c.in-Compute.is)
-    c.turn-computed.ensures.rest)
-
-pub returns-in-Compute-clause-ends : goal.returns-in-Compute-clause-ends
-returns-in-Compute-clause-ends g c credit = absurd (let a = sym c.in-Compute.is ∙ credit in cc)
-
-pub returns-in-Compute-clause-knows : goal.returns-in-Compute-clause-knows
-returns-in-Compute-clause-knows g c = let e = g.T.Steps.setting c.args.steps.now in let v = g.T.Steps.view c.args.steps.now in let p = c.args.terms.now.plan.now in let t = g.G.TaskGraph.graph c.args.terms.now.graph.now in let h = c.args.hand.now in
-    stepped_knows g.T.KeyWords.spare c.turn-computed.ensures.step (compute_row e v p h c.turn-computed.new.hand c.in-Compute.compute) (prepared_knows e.graph c.in-Compute.compute v)
-
-pub turn-computed-requires-clause-stands : goal.turn-computed-requires-clause-stands
-turn-computed-requires-clause-stands g c κs within = let e = g.T.Steps.setting c.args.steps.now in let v = g.T.Steps.view c.args.steps.now in let p = c.args.terms.now.plan.now in let t = g.G.TaskGraph.graph c.args.terms.now.graph.now in let h = c.args.hand.now in
-    subst (Stands t e v) c.in-Compute.is c.requires.stands
-
-pub turn-computed-requires-clause-top : goal.turn-computed-requires-clause-top
-turn-computed-requires-clause-top g c κs within = let e = g.T.Steps.setting c.args.steps.now in let v = g.T.Steps.view c.args.steps.now in let p = c.args.terms.now.plan.now in let t = g.G.TaskGraph.graph c.args.terms.now.graph.now in let h = c.args.hand.now in
-    subst (FitsTop e v h) c.in-Compute.is c.requires.top
-
-pub turn-computed-requires-clause-scratch : goal.turn-computed-requires-clause-scratch
-turn-computed-requires-clause-scratch g c κs within = let e = g.T.Steps.setting c.args.steps.now in let v = g.T.Steps.view c.args.steps.now in let p = c.args.terms.now.plan.now in let t = g.G.TaskGraph.graph c.args.terms.now.graph.now in let h = c.args.hand.now in
-    subst (FitsScratch e t c.args.scratch.now) c.in-Compute.is c.requires.scratch
 
 pub returns-in-Close-clause-goes : goal.returns-in-Close-clause-goes
 returns-in-Close-clause-goes g c = let e = g.T.Steps.setting c.args.steps.now in let v = g.T.Steps.view c.args.steps.now in let p = c.args.terms.now.plan.now in let t = g.G.TaskGraph.graph c.args.terms.now.graph.now in let h = c.args.hand.now in
@@ -424,22 +320,6 @@ returns-in-Credit-clause-good g c = let e = g.T.Steps.setting c.args.steps.now i
 pub returns-in-Credit-clause-again : goal.returns-in-Credit-clause-again
 returns-in-Credit-clause-again g c = let e = g.T.Steps.setting c.args.steps.now in let p = c.args.terms.now.plan.now in let n = (g.T.Steps.shown c.give_up.new.steps).1 in
     subst (λ x. LooksAgain e.graph p n x (after_items c.give_up.result)) (sym c.in-Credit.is) tt
-
-pub returns-in-Explore-clause-good : goal.returns-in-Explore-clause-good
-returns-in-Explore-clause-good g c = let e = g.T.Steps.setting c.args.steps.now in let p = c.args.terms.now.plan.now in let h = c.args.hand.now in
-    subst (λ x. FallsGood e h x (item_rest e p h c.args.item.now) (after_rest e p c.turn-explored.new.hand c.after.result)) (sym c.in-Explore.is) tt
-
-pub returns-in-Explore-clause-again : goal.returns-in-Explore-clause-again
-returns-in-Explore-clause-again g c = let e = g.T.Steps.setting c.args.steps.now in let p = c.args.terms.now.plan.now in let n = (g.T.Steps.shown c.turn-explored.new.steps).1 in
-    subst (λ x. LooksAgain e.graph p n x (after_items c.after.result)) (sym c.in-Explore.is) tt
-
-pub returns-in-Compute-clause-good : goal.returns-in-Compute-clause-good
-returns-in-Compute-clause-good g c = let e = g.T.Steps.setting c.args.steps.now in let p = c.args.terms.now.plan.now in let h = c.args.hand.now in
-    subst (λ a. FallsGood e h c.args.item.now (item_rest e p h c.args.item.now) (after_rest e p c.turn-computed.new.hand a)) (sym c.after-in-Compute.ensures) (subst (λ x. FallsGood e h x (item_rest e p h x) (after_rest e p c.turn-computed.new.hand (computed_after c.in-Compute.compute c.args.terms.now.lives c.turn-computed.result))) (sym c.in-Compute.is) c.turn-computed.ensures.good)
-
-pub returns-in-Compute-clause-again : goal.returns-in-Compute-clause-again
-returns-in-Compute-clause-again g c = let e = g.T.Steps.setting c.args.steps.now in let p = c.args.terms.now.plan.now in let n = (g.T.Steps.shown c.turn-computed.new.steps).1 in
-    subst (λ x. LooksAgain e.graph p n x (after_items c.after-in-Compute.result)) (sym c.in-Compute.is) tt
 
 pub returns-in-Close-clause-good : goal.returns-in-Close-clause-good
 returns-in-Close-clause-good g c = let e = g.T.Steps.setting c.args.steps.now in let p = c.args.terms.now.plan.now in let h = c.args.hand.now in
