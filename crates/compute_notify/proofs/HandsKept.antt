@@ -1,5 +1,5 @@
 -- Turns of items that take no block leave none in hand.
-use Rattle.std.proofs.Common.{◌≡◌, ◌≢◌, ℕ, Bool, true, false, cond, eqb, nat_lt, not, ◌&&◌, List, [], Option, None, ap, refl, sym, ◌∙◌, subst}
+use Rattle.std.proofs.Common.{◌≡◌, ℕ, Bool, true, false, cond, nat_lt, not, ◌&&◌, List, [], Option, None, refl, ◌∙◌, subst}
 use Rattle.core_state.specs.Counts.{known_key}
 use Rattle.core_state.specs.Events.{Event, after}
 use Rattle.core_state.specs.Events.Event.{buy, post, renew_descriptor, renew_notify}
@@ -83,7 +83,3 @@ pub last_stops : (passed last : Bool) → passed ≡ false → last ≡ not (not
 last_stops true last left = absurd cc
 last_stops false true left = refl
 last_stops false false left = refl
-
--- some ports are left
-pub some_ports : (n : ℕ) → eqb n 0 ≡ false → n ≢ 0
-some_ports n left none = let a : true ≡ false = sym (ap (λ (m : ℕ). eqb m 0) none) ∙ left in cc

@@ -1,5 +1,5 @@
 -- The last item of a task, and the others.
-use Rattle.std.proofs.Common.{◌≡◌, ◌≢◌, ℕ, suc, ◌-◌, ◌≤◌, ◌==◌, Bool, true, false, Some, List, [], ◌∷◌, ◌++◌, length, take, slice_index_or, slice_set, refl, ap, sym, subst, ◌∙◌, arith}
+use Rattle.std.proofs.Common.{◌≡◌, ◌≢◌, ℕ, suc, ◌-◌, ◌<◌, ◌≤◌, ◌==◌, Bool, true, false, Some, List, [], ◌∷◌, ◌++◌, length, take, slice_index_or, slice_set, refl, ap, sym, subst, ◌∙◌, arith}
 use Rattle.graph_model.specs.declared.plan.Strike.{Strike}
 use Rattle.core_state.specs.Graph.{Graph}
 use Rattle.compute_notify.specs.Tasks.{FindsNext, after_items, but_last, last_item}
@@ -23,6 +23,11 @@ take_rest n xs long = subst (λ m. take (m - 1) xs ≡ but_last xs) (sym long) (
   here [] = refl
   here (x ∷ []) = refl
   here (x ∷ y ∷ ys) = subst (λ m. take m (x ∷ y ∷ ys) ≡ x ∷ but_last (y ∷ ys)) (one_more x y ys) (ap (λ zs. x ∷ zs) (here (y ∷ ys)))
+
+pub rest_shorter : (xs : List Item) → xs ≢ [] → length (but_last xs) < length xs
+rest_shorter [] some = absurd (some refl)
+rest_shorter (x ∷ []) some = omega arith
+rest_shorter (x ∷ y ∷ ys) some = let a = rest_shorter (y ∷ ys) (λ none. cc) in omega (arith, a)
 
 -- it stands where the list ends
 pub last_at : (n : ℕ) (xs : List Item) (d : Item) → n ≡ length xs → xs ≢ [] → slice_index_or xs (n - 1) d ≡ last_item xs

@@ -56,6 +56,8 @@ use Rattle.compute_notify.specs.declared.item.Item.TheVariants as item
 use Rattle.compute_notify.specs.declared.look.Look.{Look}
 use Rattle.compute_notify.specs.declared.look.Way.{Way as Looking}
 use Rattle.compute_notify.specs.declared.look.Way.TheVariants as looking
+use Rattle.compute_notify.specs.declared.notify.Notified.{Notified}
+use Rattle.compute_notify.specs.declared.notify.Notified.TheVariants as notified
 use Rattle.compute_notify.specs.declared.notify.Notify.{Notify}
 use Rattle.compute_notify.specs.declared.notify.Way.{Way as Telling}
 use Rattle.compute_notify.specs.declared.notify.Way.TheVariants as telling
@@ -256,6 +258,7 @@ explored_after x lives (explored.Ended told) = record { left = None; came = told
 abbrev pub stays_often : Item → Bool
 stays_often (item.Explore x) = true
 stays_often (item.Compute c) = true
+stays_often (item.Notify n) = true
 stays_often _ = false
 
 -- what a turn of a computing left and brought
@@ -265,6 +268,11 @@ computed_after c lives (computed.Bad input why) = record { left = Some (item.Loo
 computed_after c lives computed.Written = record { left = Some (item.Close (close_from c.duty 0)); came = came.Nothing }
 computed_after c lives computed.Left = record { left = None; came = came.Nothing }
 computed_after c lives (computed.Marked life) = record { left = None; came = came.Above (item.Recover (replaces (record { row = c.duty.row; key = c.duty.key; life = life }) cause.Descriptor false lives)) }
+
+-- what a turn of a notification left and brought
+abbrev pub notified_after : Notify → ℕ → Notified → After
+notified_after n lives (notified.On way) = record { left = Some (item.Notify (record n { way = way })); came = came.Nothing }
+notified_after n lives (notified.Spent row key told) = record { left = Some (item.Notify (notify_of n.key n.life n.word (next_ports n.ports))); came = told_came told row key lives }
 
 -- What a turn leaves.
 abbrev pub left_lines : Graph → Option Item → List Line → List Line

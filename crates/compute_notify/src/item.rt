@@ -1,12 +1,12 @@
-ghost use Rattle.std.specs.Prelude.{None, Some, ℕ, ◌≡◌, false, true};
-ghost use Rattle.compute_notify.specs.Items.{computed_after, explored_after, job_item, replaces, told_came};
+ghost use Rattle.std.specs.Prelude.{None, Some, ℕ, ◌≡◌, ◌≢◌, false, true};
+ghost use Rattle.compute_notify.specs.Items.{computed_after, explored_after, job_item, notified_after, replaces, told_came};
 
 use crate::close::Close;
 use crate::compute::{Compute, Computed};
 use crate::duty::Duty;
 use crate::explore::{Explore, Explored};
 use crate::look::Look;
-use crate::notify::Notify;
+use crate::notify::{Notified, Notify};
 use crate::run::greatest_life;
 use core_state::{Job, Told};
 use graph_model::{Cause, Key};
@@ -112,6 +112,19 @@ impl Item {
     {
         match self {
             Item::Compute { compute } => compute.keep(told),
+            _ => false,
+        }
+    }
+
+    /// Changes a notification, if its turn brought nothing.
+    #[inline(always)]
+    pub(crate) fn keep_notified(&mut self, told: &Notified) -> bool
+        requires some { (n : Notify) → self.old ≡ Item.Notify n → n.ports ≢ 0 }
+        ensures kept { result ≡ true → (n : Notify) (lives : ℕ) → self.old ≡ Item.Notify n → notified_after n lives told.now ≡ record { left = Some self.new; came = Came.Nothing } }
+        ensures same { result ≡ false → self.new ≡ self.old }
+    {
+        match self {
+            Item::Notify { notify } => notify.keep(told),
             _ => false,
         }
     }

@@ -1,7 +1,7 @@
 //! The work of one job, with all that was met on the way.
 ghost use Rattle.std.specs.Prelude.{List, None, OnOk, Some, [], false, length, not, true, vec_capacity, ◌++◌, ◌+◌, ◌≡◌, ◌≢◌, ◌≤◌};
 ghost use Rattle.compute_notify.specs.Eventing.{item_calls, item_event, item_hints, item_prepared, steps_on};
-ghost use Rattle.compute_notify.specs.Items.{Goes, ItemSpends, Stands, computed_after, explored_after, is_over, is_spent, item_lines, job_item, stays_often};
+ghost use Rattle.compute_notify.specs.Items.{Goes, ItemSpends, Stands, computed_after, explored_after, is_over, is_spent, item_lines, job_item, notified_after, stays_often};
 ghost use Rattle.compute_notify.specs.Resting.{FallsGood, LeavesAbove, LetsFall, LooksAgain, after_rest, item_rest};
 ghost use Rattle.compute_notify.specs.Rooms.{AfterScratch, FitsScratch};
 ghost use Rattle.compute_notify.specs.Running.{Makes, Runs, SameKernel};
@@ -17,6 +17,7 @@ ghost use Rattle.recovery.specs.Memory.{Remembers};
 use crate::compute::{Compute, Computed};
 use crate::explore::{Explore, Explored};
 use crate::item::{After, Came, Item};
+use crate::notify::{Notified, Notify};
 use crate::paying::{give_up, pay};
 use crate::replacing::replace;
 use crate::run::{Run, Terms};
@@ -119,6 +120,15 @@ fn last(items: &Vec<Item>) -> &Item
     &items[items.len() - 1]
 }
 
+// Takes the last item away. It stands apart, so that the turns that find it unfinished pay nothing for it.
+#[inline(never)]
+fn drop_last(items: &mut Vec<Item>)
+    ensures items { items.new.items ≡ but_last items.old.items }
+    ensures capacity { vec_capacity items.new ≡ vec_capacity items.old }
+{
+    items.pop();
+}
+
 // Takes from the end what has nothing left to do; whether an item is left then.
 #[inline(always)]
 fn next<G: TaskGraph>(items: &mut Vec<Item>, terms: &Terms<'_, G>) -> bool
@@ -130,7 +140,7 @@ fn next<G: TaskGraph>(items: &mut Vec<Item>, terms: &Terms<'_, G>) -> bool
         if !is_over(last(items), terms) {
             return true;
         }
-        items.pop();
+        drop_last(items);
     }
     false
 }
@@ -216,6 +226,18 @@ fn settle_computed(items: &mut Vec<Item>, compute: &Compute, told: Computed, liv
     settle(items, &compute.after(told, lives))
 }
 
+// The same of a notification.
+#[inline(never)]
+fn settle_notified(items: &mut Vec<Item>, notify: &Notify, told: Notified, lives: u32) -> Turn
+    requires some { items.old.items ≢ [] }
+    requires left { notify.now.ports ≢ 0 }
+    requires room { length items.old.items + 2 ≤ vec_capacity items.old }
+    ensures items { items.new.items ≡ but_last items.old.items ++ after_items (notified_after notify.now lives told) }
+    ensures told { result ≡ task_turn (notified_after notify.now lives told).came (length items.new.items) }
+{
+    settle(items, &notify.after(told, lives))
+}
+
 // An exploring that only goes on is changed where it lies.
 #[inline(always)]
 fn keep_explored(items: &mut Vec<Item>, explore: &Explore, told: Explored, lives: u32) -> Turn
@@ -247,6 +269,24 @@ fn keep_computed(items: &mut Vec<Item>, compute: &Compute, told: Computed, lives
         Turn::Going
     } else {
         settle_computed(items, compute, told, lives)
+    }
+}
+
+// So is a notification.
+#[inline(always)]
+fn keep_notified(items: &mut Vec<Item>, notify: &Notify, told: Notified, lives: u32) -> Turn
+    requires some { items.old.items ≢ [] }
+    requires last { last_item items.old.items ≡ Item.Notify notify.now }
+    requires left { notify.now.ports ≢ 0 }
+    requires room { length items.old.items + 2 ≤ vec_capacity items.old }
+    ensures items { items.new.items ≡ but_last items.old.items ++ after_items (notified_after notify.now lives told) }
+    ensures told { result ≡ task_turn (notified_after notify.now lives told).came (length items.new.items) }
+{
+    let last = items.len() - 1;
+    if items[last].keep_notified(&told) {
+        Turn::Going
+    } else {
+        settle_notified(items, notify, told, lives)
     }
 }
 
@@ -289,9 +329,10 @@ fn turn_item<T: Steps, G: TaskGraph, Ke: Kernel>(
 {
     match *item {
         Item::Credit => give_up(steps, terms),
-        Item::Explore { explore: _ } | Item::Compute { compute: _ } => unreachable!(),
+        Item::Explore { explore: _ }
+        | Item::Compute { compute: _ }
+        | Item::Notify { notify: _ } => unreachable!(),
         Item::Close { close } => close.turn(steps, terms, hand),
-        Item::Notify { notify } => notify.turn(steps, terms),
         Item::Look { look } => look.turn(steps, terms),
         Item::Owe { owe } => pay(owe, steps, terms, hints),
         Item::Recover { recover } => replace(recover, steps, terms, hints),
@@ -485,6 +526,11 @@ impl Task {
                 let compute = *compute;
                 let told = compute.turn(steps, &terms, &mut self.hand, run.scratch, run.kernel);
                 keep_computed(&mut self.items, &compute, told, run.lives)
+            }
+            Item::Notify { notify } => {
+                let notify = *notify;
+                let told = notify.turn(steps, &terms);
+                keep_notified(&mut self.items, &notify, told, run.lives)
             }
             _ => self.turn_other(steps, run),
         }

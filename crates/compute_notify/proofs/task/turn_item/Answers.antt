@@ -11,7 +11,7 @@ use Rattle.compute_notify.specs.declared.item.After.{After}
 use Rattle.compute_notify.specs.declared.item.Item.TheVariants as item
 use Rattle.compute_notify.proofs.BelowStrikes.{by_truth, close_row, owe_row, same_knows, stepped_knows}
 use Rattle.compute_notify.proofs.HandsFree.{after_free}
-use Rattle.compute_notify.proofs.HandsKept.{last_stops, look_hands, notify_hands, owe_hands, recover_hands, some_ports, stepped_free}
+use Rattle.compute_notify.proofs.HandsKept.{last_stops, look_hands, owe_hands, recover_hands, stepped_free}
 use Rattle.compute_notify.proofs.Plain.{bare_scratch, plain_bare, plain_unspent}
 use Rattle.compute_notify.proofs.Topmost.{scratch_room}
 use Rattle.compute_notify.proofs.task.turn_item.Goals as goal
@@ -116,56 +116,6 @@ turn-requires-clause-top g c κs within = let e = g.T.Steps.setting c.args.steps
 
 pub turn-requires-clause-left : goal.turn-requires-clause-left
 turn-requires-clause-left g c κs within = subst (λ x. is_over (g.T.Steps.setting c.args.steps.now).graph c.args.terms.now.plan.now x ≡ false) c.in-Close.is c.requires.left
-
-pub returns-in-Notify-clause-goes : goal.returns-in-Notify-clause-goes
-returns-in-Notify-clause-goes g c = let e = g.T.Steps.setting c.args.steps.now in let v = g.T.Steps.view c.args.steps.now in let p = c.args.terms.now.plan.now in let t = g.G.TaskGraph.graph c.args.terms.now.graph.now in let h = c.args.hand.now in
-    subst (λ x. Goes t e v (g.T.Steps.view c.turn-in-Notify.new.steps) (item_lines e.graph x) c.turn-in-Notify.result) (sym c.in-Notify.is) c.turn-in-Notify.ensures.goes
-
-pub returns-in-Notify-clause-top : goal.returns-in-Notify-clause-top
-returns-in-Notify-clause-top g c = let e = g.T.Steps.setting c.args.steps.now in let v = g.T.Steps.view c.args.steps.now in let p = c.args.terms.now.plan.now in let t = g.G.TaskGraph.graph c.args.terms.now.graph.now in let h = c.args.hand.now in
-    stepped_free g.T.KeyWords.spare c.turn-in-Notify.ensures.step (notify_hands e v c.in-Notify.notify c.in-Notify.notify.way) h (subst (FitsTop e v h) c.in-Notify.is c.requires.top) c.turn-in-Notify.result
-
-pub returns-in-Notify-clause-scratch : goal.returns-in-Notify-clause-scratch
-returns-in-Notify-clause-scratch g c = let e = g.T.Steps.setting c.args.steps.now in let v = g.T.Steps.view c.args.steps.now in let p = c.args.terms.now.plan.now in let t = g.G.TaskGraph.graph c.args.terms.now.graph.now in let h = c.args.hand.now in
-    bare_scratch e t c.args.scratch.now (scratch_room e t c.args.scratch.now c.args.item.now c.requires.scratch) c.turn-in-Notify.result (plain_bare c.turn-in-Notify.result c.turn-in-Notify.ensures.plain)
-
-pub returns-in-Notify-clause-hints : goal.returns-in-Notify-clause-hints
-returns-in-Notify-clause-hints g c = ap (λ x. item_hints x c.args.hints.now) (sym c.in-Notify.is)
-
-pub returns-in-Notify-clause-calls : goal.returns-in-Notify-clause-calls
-returns-in-Notify-clause-calls g c = ap (λ x. item_calls (g.T.Steps.setting c.args.steps.now).graph x (g.Ke.Kernel.calls c.args.kernel.now)) (sym c.in-Notify.is)
-
-pub returns-in-Notify-clause-spent : goal.returns-in-Notify-clause-spent
-returns-in-Notify-clause-spent g c = plain_unspent c.turn-in-Notify.result c.turn-in-Notify.ensures.plain ∙ ap (λ x. not (steps_on x)) (sym c.in-Notify.is)
-
-pub returns-in-Notify-clause-cause : goal.returns-in-Notify-clause-cause
-returns-in-Notify-clause-cause g c = subst (λ x. ItemSpends (g.T.Steps.setting c.args.steps.now) x c.turn-in-Notify.result.came) (sym c.in-Notify.is) (plain_unspent c.turn-in-Notify.result c.turn-in-Notify.ensures.plain)
-
-pub returns-in-Notify-clause-still : goal.returns-in-Notify-clause-still
-returns-in-Notify-clause-still g c off = absurd (let a = sym (ap steps_on c.in-Notify.is) ∙ off in cc)
-
-pub returns-in-Notify-clause-step : goal.returns-in-Notify-clause-step
-returns-in-Notify-clause-step g c on = let e = g.T.Steps.setting c.args.steps.now in let v = g.T.Steps.view c.args.steps.now in let p = c.args.terms.now.plan.now in let t = g.G.TaskGraph.graph c.args.terms.now.graph.now in let h = c.args.hand.now in
-    subst (λ x. HasStepped g.T.Steps.setting g.T.Steps.view g.T.KeyWords.made g.T.KeyWords.spare g.T.KeyWords.last g.T.Steps.shown g.T.Steps.happened g.T.Steps.lender g.T.Steps.others (item_prepared e.graph x) (item_event e v p h h x) c.args.steps.now c.turn-in-Notify.new.steps) (sym c.in-Notify.is) c.turn-in-Notify.ensures.step
-
-pub returns-in-Notify-clause-rest : goal.returns-in-Notify-clause-rest
-returns-in-Notify-clause-rest g c on = let e = g.T.Steps.setting c.args.steps.now in let v = g.T.Steps.view c.args.steps.now in let p = c.args.terms.now.plan.now in let t = g.G.TaskGraph.graph c.args.terms.now.graph.now in let h = c.args.hand.now in
-    let n : ℕ = (g.T.Steps.shown c.turn-in-Notify.new.steps).1 in
-    subst (λ x. LetsFall e p (item_event e v p h h x) n (item_rest e p h x) (after_rest e p h c.turn-in-Notify.result)) (sym c.in-Notify.is)
-    (subst (λ i. LetsFall e p (item_event e v p h h (item.Notify c.in-Notify.notify)) n (item_rest e p i (item.Notify c.in-Notify.notify)) (after_rest e p i c.turn-in-Notify.result)) (sym (subst (FitsTop e v h) c.in-Notify.is c.requires.top).1) c.turn-in-Notify.ensures.rest)
-
-pub returns-in-Notify-clause-ends : goal.returns-in-Notify-clause-ends
-returns-in-Notify-clause-ends g c credit = absurd (let a = sym c.in-Notify.is ∙ credit in cc)
-
-pub returns-in-Notify-clause-knows : goal.returns-in-Notify-clause-knows
-returns-in-Notify-clause-knows g c = c.turn-in-Notify.ensures.knows
-
-pub turn-requires-in-Notify-clause-stands : goal.turn-requires-in-Notify-clause-stands
-turn-requires-in-Notify-clause-stands g c κs within = let e = g.T.Steps.setting c.args.steps.now in let v = g.T.Steps.view c.args.steps.now in let p = c.args.terms.now.plan.now in let t = g.G.TaskGraph.graph c.args.terms.now.graph.now in let h = c.args.hand.now in
-    subst (Stands t e v) c.in-Notify.is c.requires.stands
-
-pub turn-requires-in-Notify-clause-left : goal.turn-requires-in-Notify-clause-left
-turn-requires-in-Notify-clause-left g c κs within = some_ports c.in-Notify.notify.ports (subst (λ x. is_over (g.T.Steps.setting c.args.steps.now).graph c.args.terms.now.plan.now x ≡ false) c.in-Notify.is c.requires.left)
 
 pub returns-in-Look-clause-goes : goal.returns-in-Look-clause-goes
 returns-in-Look-clause-goes g c = let e = g.T.Steps.setting c.args.steps.now in let v = g.T.Steps.view c.args.steps.now in let p = c.args.terms.now.plan.now in let t = g.G.TaskGraph.graph c.args.terms.now.graph.now in let h = c.args.hand.now in
@@ -328,14 +278,6 @@ returns-in-Close-clause-good g c = let e = g.T.Steps.setting c.args.steps.now in
 pub returns-in-Close-clause-again : goal.returns-in-Close-clause-again
 returns-in-Close-clause-again g c = let e = g.T.Steps.setting c.args.steps.now in let p = c.args.terms.now.plan.now in let n = (g.T.Steps.shown c.turn.new.steps).1 in
     subst (λ x. LooksAgain e.graph p n x (after_items c.turn.result)) (sym c.in-Close.is) c.turn.ensures.again
-
-pub returns-in-Notify-clause-good : goal.returns-in-Notify-clause-good
-returns-in-Notify-clause-good g c = let e = g.T.Steps.setting c.args.steps.now in let p = c.args.terms.now.plan.now in let h = c.args.hand.now in
-    subst (λ x. FallsGood e h x (item_rest e p h c.args.item.now) (after_rest e p h c.turn-in-Notify.result)) (sym c.in-Notify.is) tt
-
-pub returns-in-Notify-clause-again : goal.returns-in-Notify-clause-again
-returns-in-Notify-clause-again g c = let e = g.T.Steps.setting c.args.steps.now in let p = c.args.terms.now.plan.now in let n = (g.T.Steps.shown c.turn-in-Notify.new.steps).1 in
-    subst (λ x. LooksAgain e.graph p n x (after_items c.turn-in-Notify.result)) (sym c.in-Notify.is) tt
 
 pub returns-in-Look-clause-good : goal.returns-in-Look-clause-good
 returns-in-Look-clause-good g c = let e = g.T.Steps.setting c.args.steps.now in let p = c.args.terms.now.plan.now in let h = c.args.hand.now in

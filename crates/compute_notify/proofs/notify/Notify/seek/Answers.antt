@@ -1,4 +1,4 @@
-use Rattle.std.proofs.Common.{◌≡◌, ℕ, ◌+◌, Some, refl, subst, sym, ◌∙◌, ap}
+use Rattle.std.proofs.Common.{◌≡◌, ℕ, ◌+◌, Some, refl, subst, sym, ◌∙◌}
 use Rattle.core_state.specs.Events.Event.{look}
 use Rattle.core_steps.specs.Seat.{known_of}
 use Rattle.key_table.specs.Seeking.{next_row}
@@ -6,7 +6,6 @@ use Rattle.key_table.specs.declared.search.Sought.TheVariants as sought
 use Rattle.recovery.proofs.Knowing.{remembers}
 use Rattle.recovery.proofs.Phases.{credits_kept}
 use Rattle.recovery.proofs.Seeking.{look_is, look_right, look_step, spends, passed_by}
-use Rattle.compute_notify.specs.Rooms.{is_plain}
 use Rattle.compute_notify.proofs.Stepped.{steps_once}
 use Rattle.compute_notify.proofs.Telling.{awaits_successor, goes_on, goes_at}
 use Rattle.compute_notify.proofs.notify.Notify.seek.Goals as goal
@@ -26,7 +25,7 @@ returns-in-Going-clause-goes g c = let s = c.args.search in let t = c.in-Going.e
     goes_on _ e v w (g.T.KeyWords.last c.turn.new.words).1 c.args.self c.requires.left c.requires.stands.fits
     (remembers e _ _ v w (look_right s looks step stays) (look_step s looks step).view_is)
     (credits_kept e (look (next_row s)) (g.T.KeyWords.last c.turn.new.words).1 0 v w (look_is s looks step) refl c.requires.stands.credits)
-    s c.requires.search (g.T.KeyWords.known c.turn.new.words) stays (λ r. g.met.T.Steps.known_is c.turn.new.words r) (look_is s looks step) c.turn.new.self c.on.result t.search t.tells c.on.ensures
+    s c.requires.search (g.T.KeyWords.known c.turn.new.words) stays (λ r. g.met.T.Steps.known_is c.turn.new.words r) (look_is s looks step) c.turn.new.self _ t.search t.tells refl
 
 pub returns-in-At-clause-goes : goal.returns-in-At-clause-goes
 returns-in-At-clause-goes g c = let s = c.args.search in let t = c.in-At.ensures in let e = g.T.Steps.setting c.args.steps.now in let v = g.T.Steps.view c.args.steps.now in let w = g.T.Steps.view c.turn.new.words in
@@ -35,7 +34,7 @@ returns-in-At-clause-goes g c = let s = c.args.search in let t = c.in-At.ensures
     goes_at _ e v w (g.T.KeyWords.last c.turn.new.words).1 c.args.self c.requires.left c.requires.stands.fits
     (remembers e _ _ v w (look_right s looks step stays) (look_step s looks step).view_is)
     (credits_kept e (look (next_row s)) (g.T.KeyWords.last c.turn.new.words).1 0 v w (look_is s looks step) refl c.requires.stands.credits)
-    s c.requires.search (g.T.KeyWords.known c.turn.new.words) stays (λ r. g.met.T.Steps.known_is c.turn.new.words r) (look_is s looks step) c.in-At.row c.in-At.made c.on-in-At.result t.tells c.on-in-At.ensures
+    s c.requires.search (g.T.KeyWords.known c.turn.new.words) stays (λ r. g.met.T.Steps.known_is c.turn.new.words r) (look_is s looks step) c.in-At.row c.in-At.made _ t.tells refl
 
 pub returns-in-Going-clause-step : goal.returns-in-Going-clause-step
 returns-in-Going-clause-step g c = let s = c.args.search in let t = c.in-Going.ensures in let step = g.met.T.Steps.key_step c.args.steps.now c.turn.new.words _ _ t.did in
@@ -56,7 +55,7 @@ returns-in-At-clause-knows g c = let s = c.args.search in let t = c.in-At.ensure
     remembers e _ _ v w (look_right s looks step (λ k is. t.stays k (g.met.T.Steps.known_is c.args.steps.now _ ∙ is))) (look_step s looks step).view_is
 
 pub returns-in-Going-clause-plain : goal.returns-in-Going-clause-plain
-returns-in-Going-clause-plain g c = ap is_plain c.on.ensures
+returns-in-Going-clause-plain g c = refl
 
 pub returns-in-At-clause-plain : goal.returns-in-At-clause-plain
-returns-in-At-clause-plain g c = ap is_plain c.on-in-At.ensures
+returns-in-At-clause-plain g c = refl

@@ -8,10 +8,9 @@ use Rattle.recovery.specs.Memory.{KnowsKey}
 use Rattle.recovery.proofs.Knowing.{key_stays, known_is, remembers_apart}
 use Rattle.recovery.proofs.Phases.{credits_kept}
 use Rattle.compute_notify.specs.Eventing.{notify_event}
-use Rattle.compute_notify.specs.Items.{first_port}
-use Rattle.compute_notify.specs.Resting.{LetsFall, after_rest, item_rest}
+use Rattle.compute_notify.specs.Items.{first_port, next_ports, notify_of, told_came}
+use Rattle.compute_notify.specs.Resting.{item_rest}
 use Rattle.compute_notify.specs.declared.item.Item.TheVariants as item
-use Rattle.compute_notify.specs.Rooms.{plain_came}
 use Rattle.compute_notify.proofs.Plain.{plain_over, told_plain}
 use Rattle.compute_notify.proofs.Coming.{falls_as, told_falls}
 use Rattle.compute_notify.proofs.Running.{limit_is}
@@ -65,8 +64,7 @@ returns-in-Spend-clause-goes g c = let serves = c.requires.runs.serves in let e 
     let m : ℕ = (g.T.Steps.shown c.spend-told.new.self).1 in
     let more = remembers_apart e (spend row (known_key row v) place) m v w refl c.spend-told.ensures.step.view_is in
     spends _ e v n c.requires.left c.requires.stands.fits w more (credits_kept e (spend row (known_key row v) place) m 0 v w c.spend-told.ensures.step.view_is refl c.requires.stands.credits)
-    m place row k c.args.terms.now.lives c.spend-told.result c.behind.result c.over.result c.behind.ensures
-    (c.over.ensures ∙ ap (λ x. record { left = Some (item.Notify c.behind.result); came = x }) c.told-came.ensures)
+    m place row k c.args.terms.now.lives c.spend-told.result _ _ refl refl
     (c.spend-told.ensures.told ∙ ap (λ x. told_of x place m) (c.pred_count.ensures serves.outcome e.graph asked))
     c.spend-told.ensures.step.view_is knows (record { is_key = subst (λ h. IsCoreKey (g.G.TaskGraph.graph h) k.0) c.of-graph.ensures c.succ-place.ensures.key; known = key_stays e v w row k.0 more knows })
     (limit_is _ _ _ e c.requires.runs k.0)
@@ -84,15 +82,15 @@ returns-in-Spend-clause-rest g c = let serves = c.requires.runs.serves in let e 
     let knows : KnowsKey e v row k.0 = knows_successor e v n row k.0 place at c.in-Spend.is c.requires.stands.fits.telling in
     let m : ℕ = (g.T.Steps.shown c.spend-told.new.self).1 in
     falls_as e _ m _ _ (spend_event e v n n.way row k.0 place c.in-Spend.is at)
-    (subst (λ a. LetsFall e c.args.terms.now.plan.now (spend row (known_key row v) place) m (item_rest e c.args.terms.now.plan.now None (item.Notify n)) (after_rest e c.args.terms.now.plan.now None a)) (sym (c.over.ensures ∙ ap (λ x. record { left = Some (item.Notify c.behind.result); came = x }) c.told-came.ensures))
-    (told_falls e c.args.terms.now.plan.now v (e.graph.places k.0) place m c.spend-told.result row k c.args.terms.now.lives (Some (item.Notify c.behind.result)) (item_rest e c.args.terms.now.plan.now None (item.Notify n))
+    (told_falls e c.args.terms.now.plan.now v (e.graph.places k.0) place m c.spend-told.result row k c.args.terms.now.lives (Some (item.Notify (notify_of n.key n.life n.word (next_ports n.ports)))) (item_rest e c.args.terms.now.plan.now None (item.Notify n))
     (c.spend-told.ensures.told ∙ ap (λ x. told_of x place m) (c.pred_count.ensures serves.outcome e.graph asked)) (known_is e v row k.0 knows)
-    (behind_rest _ e v n c.behind.result row c.requires.left c.requires.stands.fits c.in-Spend.is c.behind.ensures)))
+    (behind_rest _ e v n (notify_of n.key n.life n.word (next_ports n.ports)) row c.requires.left c.requires.stands.fits c.in-Spend.is refl))
 
 pub returns-in-Spend-clause-knows : goal.returns-in-Spend-clause-knows
 returns-in-Spend-clause-knows g c = let e = g.T.Steps.setting c.args.steps.now in let v = g.T.Steps.view c.args.steps.now in
     remembers_apart e (spend c.in-Spend.row (known_key c.in-Spend.row v) c.succ-place.result.1) (g.T.Steps.shown c.spend-told.new.self).1 v (g.T.Steps.view c.spend-told.new.self) refl c.spend-told.ensures.step.view_is
 
 pub returns-in-Spend-clause-plain : goal.returns-in-Spend-clause-plain
-returns-in-Spend-clause-plain g c = plain_over (item.Notify c.behind.result) c.told-came.result c.over.result c.over.ensures refl
-    (ap plain_came c.told-came.ensures ∙ told_plain c.spend-told.result c.in-Spend.row c.succ-place.result.0 c.args.terms.now.lives)
+returns-in-Spend-clause-plain g c = let n = c.args.self in
+    plain_over (item.Notify (notify_of n.key n.life n.word (next_ports n.ports))) (told_came c.spend-told.result c.in-Spend.row c.succ-place.result.0 c.args.terms.now.lives) _ refl refl
+    (told_plain c.spend-told.result c.in-Spend.row c.succ-place.result.0 c.args.terms.now.lives)
