@@ -8,3 +8,5 @@ pub mod MinimalLaws
 pub mod PartsLaws
 pub mod AsciiLaws
 pub mod RoundTrip
+pub mod CodeLaws
+pub mod HeadLaws

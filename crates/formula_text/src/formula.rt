@@ -1,23 +1,24 @@
 //! Formulas.
 
 ghost use Rattle.std.specs.Prelude.{◌≡◌, ℕ, ◌≤◌, ◌<◌, length, IfSome, IfNone, MatchOption, IfOk, Ok, MatchResult, IsAscii};
-ghost use Rattle.formula_text.specs.Trees.{Tree, tree_of, value_of, Uses, HasInputs};
+ghost use Rattle.formula_text.specs.Trees.{Tree, value_of, Uses, HasInputs};
+ghost use Rattle.formula_text.specs.Codes.{tree_in};
 ghost use Rattle.formula_text.specs.Grammar.{IsFormula};
 ghost use Rattle.formula_text.specs.Writing.{text_of, IsWithin, IsWithin-prop};
 ghost use Rattle.formula_text.specs.Machine.{reading};
 ghost use Rattle.formula_text.specs.declared.fault.FormulaFault.TheVariants as faults;
 
 use crate::fault::FormulaFault;
-use crate::node::Node;
-use crate::{evaluation, reading, writing};
+use crate::{code, evaluation, reading, writing};
 use graph_model::Text;
 use std::alloc::{AllocError, Global};
 
 /// A formula over the inputs of a task, whose text is within the limits.
 #[derive(Drop)]
 pub struct Formula {
-    root: Node,
-    pub ghost within: { IsWithin (tree_of root) } by { IsWithin-prop (tree_of root) },
+    // The tree, each operator before its operands.
+    code: Vec<u8>,
+    pub ghost within: { IsWithin (tree_in code.items) } by { IsWithin-prop (tree_in code.items) },
 }
 
 impl Formula {
@@ -33,8 +34,9 @@ impl Formula {
         // The fault is the first from the left.
         ensures fault { MatchResult result (λ f. reading text.now ≡ Ok (tree f)) (λ e. Fails e (reading text.now)) }
     {
+        let node = reading::read(alloc, text.as_bytes())?;
         Ok(Formula {
-            root: reading::read(alloc, text.as_bytes())?,
+            code: code::code_of(alloc, &node, text.len())?,
         })
     }
 
@@ -43,7 +45,7 @@ impl Formula {
         requires { HasInputs (tree self.now) (length inputs.now) }
         ensures { result ≡ value_of (tree self.now) inputs.now }
     {
-        evaluation::value(&self.root, inputs)
+        evaluation::value(self.code.as_slice(), inputs).0
     }
 
     /// The greatest input that is used.
@@ -54,7 +56,7 @@ impl Formula {
         // How many inputs `eval` wants.
         ensures enough { MatchOption result ((n : ℕ) → HasInputs (tree self.now) n) (λ g. (n : ℕ) → g < n → HasInputs (tree self.now) n) }
     {
-        evaluation::greatest(&self.root)
+        evaluation::greatest(self.code.as_slice()).0
     }
 
     /// The least input that is used, of those from a number on.
@@ -64,7 +66,7 @@ impl Formula {
         ensures least { IfSome result (λ i. (k : ℕ) → Uses (tree self.now) k → from ≤ k → i ≤ k) }
         ensures none { IfNone result (HasInputs (tree self.now) from) }
     {
-        evaluation::least_from(&self.root, from)
+        evaluation::least_from(self.code.as_slice(), from).0
     }
 
     /// The text without spaces, with brackets only where they are needed.
@@ -75,6 +77,6 @@ impl Formula {
         ensures again { IfOk result (λ text. reading text ≡ Ok (tree self.now)) }
         ensures ascii { IfOk result (λ text. IsAscii text) }
     {
-        writing::text(alloc, &self.root)
+        writing::text(alloc, self.code.as_slice())
     }
 }

@@ -1,10 +1,12 @@
 //! A formula as text.
 
-ghost use Rattle.std.specs.Prelude.{◌≡◌, ◌++◌, IfOk, OnOk};
-ghost use Rattle.formula_text.specs.Trees.{tree_of};
-ghost use Rattle.formula_text.specs.Writing.{line_of, line_of_op, left_of, right_of, around, text_of, wants_brackets, before, sign, behind};
+ghost use Rattle.std.specs.Prelude.{◌≡◌, ◌++◌, ◌≤◌, length, IfOk, OnOk};
+ghost use Rattle.formula_text.specs.Codes.{tree_in, trees, below};
+ghost use Rattle.formula_text.specs.Writing.{line_of, line_of_op, left_of, right_of, around, text_of, wants_brackets, before, sign, behind, IsWritable};
 
-use crate::node::{Node, Op};
+use crate::code::Head;
+use crate::evaluation::value;
+use crate::node::Op;
 use graph_model::Text;
 use std::alloc::{AllocError, Global};
 use text_lines::put_number;
@@ -120,35 +122,53 @@ fn behind(wanted: Line, op: Op) -> &'static [u8]
     }
 }
 
-// A tree where a line of the grammar is wanted.
-fn push(out: &mut Vec<u8>, node: &Node, wanted: Line) -> Result<(), AllocError>
-    ensures { OnOk result (out.new.items ≡ out.old.items ++ around wanted (line_of (tree_of node.now)) (text_of (tree_of node.now))) }
+// The first tree of a code where a line of the grammar is wanted. What stands behind that tree comes back.
+fn push<'a>(out: &mut Vec<u8>, code: &'a [u8], wanted: Line) -> Result<&'a [u8], AllocError>
+    requires { IsWritable (tree_in code.now) }
+    ensures text { OnOk result (out.new.items ≡ out.old.items ++ around wanted (line_of (tree_in code.now)) (text_of (tree_in code.now))) }
+    ensures rest { IfOk result (λ rest. trees rest.now ≡ below (trees code.now)) }
+    ensures shorter { IfOk result (λ rest. length rest.now ≤ length code.now) }
 {
-    match node {
-        Node::Number(n) => put_number(out, n.unsigned_abs()),
-        Node::Input(i) => {
-            out.push(b'$')?;
-            put_number(out, u64::from(*i))
+    let [first, rest @ ..] = code else {
+        put_number(out, 0)?;
+        return Ok(code);
+    };
+    match Head::of(*first) {
+        Head::Two(op) => {
+            out.extend_from_slice(before(wanted, op))?;
+            let rest = push(out, rest, left_of(op))?;
+            out.push(sign(op))?;
+            let rest = push(out, rest, right_of(op))?;
+            out.extend_from_slice(behind(wanted, op))?;
+            Ok(rest)
         }
-        Node::Minus(a) => {
+        Head::Minus => {
             out.push(b'-')?;
-            push(out, a, Line::Factor)
+            push(out, rest, Line::Factor)
         }
-        Node::Two(op, a, b) => {
-            out.extend_from_slice(before(wanted, *op))?;
-            push(out, a, left_of(*op))?;
-            out.push(sign(*op))?;
-            push(out, b, right_of(*op))?;
-            out.extend_from_slice(behind(wanted, *op))
+        Head::Input(i) => {
+            out.push(b'$')?;
+            put_number(out, u64::from(i))?;
+            Ok(rest)
+        }
+        Head::Number(n) => {
+            put_number(out, u64::from(n))?;
+            Ok(rest)
+        }
+        Head::Digit(_) => {
+            let (n, rest) = value(code, &[]);
+            put_number(out, n.unsigned_abs())?;
+            Ok(rest)
         }
     }
 }
 
-/// The text of a tree.
-pub fn text(alloc: Global, node: &Node) -> Result<Text, AllocError>
-    ensures { IfOk result (λ text. text ≡ text_of (tree_of node.now)) }
+/// The text of a code's first tree.
+pub fn text(alloc: Global, code: &[u8]) -> Result<Text, AllocError>
+    requires { IsWritable (tree_in code.now) }
+    ensures { IfOk result (λ text. text ≡ text_of (tree_in code.now)) }
 {
     let mut out = Vec::new(alloc);
-    push(&mut out, node, Line::Expression)?;
+    push(&mut out, code, Line::Expression)?;
     Ok(Text::from_vec(out))
 }
