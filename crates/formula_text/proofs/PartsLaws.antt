@@ -1,5 +1,5 @@
 -- What is written, in parts.
-use Rattle.std.proofs.Common.{◌≡◌, ℕ, List, [], ◌∷◌, ◌++◌, if◌then◌else◌, Result, Ok, Err, is_ok, OnOk, refl, ◌∙◌, append_assoc, append-nil}
+use Rattle.std.proofs.Common.{◌≡◌, ℕ, List, [], ◌∷◌, ◌++◌, refl, append_assoc, append-nil}
 use Rattle.formula_text.specs.declared.node.Op.{Op}
 use Rattle.formula_text.specs.declared.node.Op.TheVariants.{Plus, Less, Times, Over, Rest, Min, Max}
 use Rattle.formula_text.specs.declared.writing.Line.{Line}
@@ -41,8 +41,3 @@ pub put_two : (wanted : Line) (op : Op) (o o1 o2 o3 o4 x a b z : List ℕ) (s : 
     → o4 ≡ o3 ++ b → z ≡ behind wanted op → o4 ++ z ≡ o ++ around wanted (line_of_op op) (joined op a b)
 put_two wanted op o o1 o2 o3 o4 x a b z s is_x e1 e2 is_s e3 e4 is_z =
     rw (e4, e3, e2, e1, is_x, is_s, is_z, in_parts wanted op a b) (simp append_assoc)
-
--- what a growth that may want memory leaves, where it did not
-pub when_grown : {T E : Type 0} (r : Result T E) (new grown old wanted : List ℕ) → new ≡ (if is_ok r then grown else old) → grown ≡ wanted → OnOk r (new ≡ wanted)
-when_grown (Ok u) new grown old wanted is fits = is ∙ fits
-when_grown (Err e) new grown old wanted is fits = tt
