@@ -1,6 +1,5 @@
 -- What bytes say, and how a tree's bytes are put behind others.
-use Rattle.std.proofs.Common.{◌≡◌, ℕ, ◌+◌, ◌*◌, ◌/◌, ◌%◌, ◌<◌, ◌≤◌, ℤ, pos, negsuc, List, [], ◌∷◌, ◌++◌, refl, ap, ◌∙◌, arith}
-use Rattle.std.specs.Prelude.{unsigned_abs}
+use Rattle.std.proofs.Common.{◌≡◌, ℕ, ◌+◌, ◌*◌, ◌/◌, ◌%◌, ◌<◌, ◌≤◌, pos, List, [], ◌∷◌, ◌++◌, refl, ap, ◌∙◌, arith}
 use Rattle.std.proofs.lemmas.Bool.Decides.{nat_tests}
 use Rattle.formula_text.specs.declared.node.Op.{Op}
 use Rattle.formula_text.specs.declared.node.Op.TheVariants as ops
@@ -8,7 +7,6 @@ use Rattle.formula_text.specs.declared.code.Head.{Head}
 use Rattle.formula_text.specs.declared.code.Head.TheVariants as heads
 use Rattle.formula_text.specs.Trees.{Tree, Number, Input, Minus, Two}
 use Rattle.formula_text.specs.Codes.{op_byte, leaf_of, head_of, made, top, trees_before, tree_in}
-use Rattle.formula_text.specs.Writing.{IsWritable}
 
 -- ---- what a byte says
 
@@ -59,11 +57,6 @@ put_minus old mid new a e more s = more s ∙ before_byte old mid 7 heads.Minus 
 pub put_operands : (old mid after new : List ℕ) (x : ℕ) (op : Op) (a b : Tree) → mid ≡ old ++ x ∷ [] → x ≡ op_byte op → ((s : List Tree) → trees_before after s ≡ trees_before mid (a ∷ s)) → ((s : List Tree) → trees_before new s ≡ trees_before after (b ∷ s)) → (s : List Tree) → trees_before new s ≡ trees_before old (Two op a b ∷ s)
 put_operands old mid after new x op a b e is left right s =
     right s ∙ left (b ∷ s) ∙ before_byte old mid x (heads.Two op) (a ∷ b ∷ s) e (ap head_of is ∙ op_head op)
-
--- a number that can be written is not negative
-pub absolute : (z : ℤ) → IsWritable (Number z) → Number (pos (unsigned_abs z)) ≡ Number z
-absolute (pos n) w = refl
-absolute (negsuc n) w = absurd w
 
 -- what is put behind nothing is the whole code
 pub whole_code : (old new kept : List ℕ) (t : Tree) → old ≡ [] → ((s : List Tree) → trees_before new s ≡ trees_before old (t ∷ s)) → kept ≡ new → tree_in kept ≡ t
