@@ -1,5 +1,9 @@
-//! What the shared table answers on a graph of one task, worked out by hand. The crate has tests alone.
+//! What the shared table answers on small graphs, worked out by hand. The crate has tests alone.
 #![tactic(auto)]
 
 #[cfg(test)]
 mod one_pass;
+#[cfg(test)]
+mod turning;
+#[cfg(test)]
+mod two_seats;

@@ -16,6 +16,9 @@ impl Course for OneTask {
     ghost setting = { one_task };
 }
 
+// Threads may share the table, and each may have a pass.
+fn is_shared<T: Sync, P: Send>(_table: &T, _pass: &P) {}
+
 #[test]
 fn one_pass(rt: HostRuntime) -> Result<(), Fail> {
     let alloc = rt.alloc();
@@ -25,6 +28,7 @@ fn one_pass(rt: HostRuntime) -> Result<(), Fail> {
         cells: vec![in alloc; 1usize, 1]?,
     };
     let (table, whole) = TaskTable::<OneTask>::new(alloc, layout)?;
+    is_shared(&table, &whole);
     let (first, second) = table.split_pass(whole);
     let mut a = table.seat(first);
     let mut b = table.seat(second);

@@ -1,8 +1,8 @@
 -- What the two seats know and hold as they go.
-use Rattle.std.proofs.Common.{List, [], ◌∷◌, ◌≡◌, ◌∙◌, ◌+◌, ◌<◌, ℕ, Bool, true, false, MatchBool, ap, sym, subst, arith, refl, Some, None}
+use Rattle.std.proofs.Common.{[], ◌≡◌, ◌∙◌, true, ap, sym, subst, arith, refl, Some, None}
 use Rattle.core_state.specs.Guards.{AtWork, CanBuy}
 use Rattle.core_state.specs.Events.Event.{look}
-use Rattle.core_state.specs.Views.{less_one, newcomer, opener}
+use Rattle.core_state.specs.Views.{less_one, opener}
 use Rattle.core_state.specs.declared.job.Job.TheVariants.{Explore}
 use Rattle.core_state.specs.declared.views.Item.TheVariants as item
 use Rattle.core_state.specs.declared.views.View.{View}
