@@ -141,7 +141,11 @@ impl Notify {
 
     /// One look for the successor at the lowest port, or the spending of its place.
     #[inline(never)]
-    pub(crate) fn turn<T: Steps, G: TaskGraph>(self, steps: &mut T, terms: &Terms<'_, G>) -> Notified
+    pub(crate) fn turn<T: Steps, G: TaskGraph>(
+        self,
+        steps: &mut T,
+        terms: &Terms<'_, G>,
+    ) -> Notified
         requires runs { Runs (G.graph terms.now.graph.now) terms.now.plan.now terms.now.lives (T.setting steps.old) }
         requires stands { Stands (G.graph terms.now.graph.now) (T.setting steps.old) (T.view steps.old) (Item.Notify self) }
         requires left { self.ports ≢ 0 }

@@ -329,9 +329,8 @@ fn turn_item<T: Steps, G: TaskGraph, Ke: Kernel>(
 {
     match *item {
         Item::Credit => give_up(steps, terms),
-        Item::Explore { explore: _ }
-        | Item::Compute { compute: _ }
-        | Item::Notify { notify: _ } => unreachable!(),
+        Item::Explore { explore: _ } | Item::Compute { compute: _ } | Item::Notify { notify: _ } =>
+            unreachable!(),
         Item::Close { close } => close.turn(steps, terms, hand),
         Item::Look { look } => look.turn(steps, terms),
         Item::Owe { owe } => pay(owe, steps, terms, hints),

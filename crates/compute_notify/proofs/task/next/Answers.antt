@@ -23,10 +23,10 @@ pub loop-items-preserved : goal.loop-items-preserved
 loop-items-preserved g c = let t = g.G.TaskGraph.graph c.args.terms.now.graph.now in let p = c.args.terms.now.plan.now in let now = c.loop-items.items.items in
     let some = some_items c.loop-items.items.len now c.is_empty.result c.loop-items.items.ok.0 c.is_empty.ensures c.loop-items-test.true in
     let rest = c.drop_last.ensures.items in (
-  c.drop_last.ensures.capacity ∙ c.loop-items.invariant.0,
-  may_rest t p now c.drop_last.new.items.items some rest c.loop-items.invariant.1,
-  one_popped t p c.args.items.now.items now c.loop-items.invariant.2 some c.drop_last.new.items.items rest (λ outcome r is. sym c.if-not-is_over.false ∙ c.is_over.ensures outcome r is ∙ ap (is_over r p) c.last.ensures),
-)
+      c.drop_last.ensures.capacity ∙ c.loop-items.invariant.0,
+      may_rest t p now c.drop_last.new.items.items some rest c.loop-items.invariant.1,
+      one_popped t p c.args.items.now.items now c.loop-items.invariant.2 some c.drop_last.new.items.items rest (λ outcome r is. sym c.if-not-is_over.false ∙ c.is_over.ensures outcome r is ∙ ap (is_over r p) c.last.ensures),
+    )
 
 pub loop-items-smaller : goal.loop-items-smaller
 loop-items-smaller g c = let now = c.loop-items.items.items in
