@@ -1,10 +1,10 @@
 -- What holds of a view between any two steps, and what a step lets its seat know beside what its word showed.
 use Rattle.std.specs.Prelude.{◌≡◌, ◌⊎◌, ℕ, ◌+◌, ◌*◌, ◌/◌, ◌%◌, ◌<◌, ◌≤◌, false}
 use Rattle.std.specs.Int.{bit_at}
-use Rattle.core_state.specs.Graph.{Setting, greatest_life}
+use Rattle.core_state.specs.Graph.{Setting, Reached, greatest_life}
 use Rattle.core_state.specs.Words.{Spot, descriptor, notify, spot_of, life_of, mark_of, life_shown, mark_shown, replacing}
 use Rattle.core_state.specs.Counts.{items, noted, facts, owed, begun, knows_row, waits, struck_by, struck_idly}
-use Rattle.core_state.specs.Tests.{notifies, is_suspect, is_spent, is_seen_life, is_seen_mark, job_of}
+use Rattle.core_state.specs.Tests.{notifies, is_suspect, is_spent, is_computed, is_seen_life, is_seen_mark, job_of}
 use Rattle.core_state.specs.declared.answers.Closing.{Closing}
 use Rattle.core_state.specs.declared.answers.Closing.TheVariants as closing
 use Rattle.core_state.specs.declared.answers.Elected.{Elected}
@@ -25,6 +25,8 @@ module _ (e : Setting) (v : View) where
     pub lives : (k l : ℕ) → 0 < items (is_suspect k l) v → (0 < l) × (l ≤ greatest_life e k)
     -- a port that is to be told is one of its task
     pub ports : (p q : ℕ) → 0 < items (notifies p q) v → q < e.graph.ports p
+    -- the root depends on a task whose result was made
+    pub computed : (k l : ℕ) → 0 < noted (is_computed k l) v → Reached e.graph k
 
   -- the number n of this word shows what the view knows of it: no earlier life than was seen, a mark that was seen or a later life, and each place and port of its own, or the mark, or a later life
   pub record IsFound (a : Spot) (n : ℕ) : Type 0 where

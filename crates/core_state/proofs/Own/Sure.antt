@@ -4,8 +4,8 @@ use mathlib.Core.Logic.{dite}
 use native.Mathlib.Decide.{ℕ_discrete, dec_lt}
 use Rattle.core_state.specs.Graph.{Setting, greatest_life}
 use Rattle.core_state.specs.Words.{recovery, standing_life}
-use Rattle.core_state.specs.Counts.{items, owed, held, ended, begun, knows_row, struck_idly}
-use Rattle.core_state.specs.Tests.{is_at, is_owed, is_suspect, carries, notifies}
+use Rattle.core_state.specs.Counts.{items, owed, held, ended, begun, knows_row, struck_idly, noted}
+use Rattle.core_state.specs.Tests.{is_at, is_owed, is_suspect, is_computed, is_of, carries, notifies}
 use Rattle.core_state.specs.Change.{Core}
 use Rattle.core_state.specs.Rows.{HasKey, HasRow}
 use Rattle.core_state.specs.Work.{job_count}
@@ -15,8 +15,20 @@ use Rattle.core_state.specs.declared.job.Job.{Job}
 use Rattle.core_state.specs.declared.job.Job.TheVariants.{Explore, Compute}
 use Rattle.core_state.specs.declared.views.Item.{Item}
 use Rattle.core_state.specs.declared.views.View.{View}
+use Rattle.graph_model.specs.declared.record.Record.{Record}
+use Rattle.graph_model.specs.declared.record.Record.TheVariants as record_of
+use Rattle.core_state.proofs.Blocks.Versions.{count_some}
 use Rattle.core_state.proofs.Row.View.{fewer_items}
 use Rattle.core_state.proofs.Row.Made.{carries_at, owed_at, suspect_at}
+
+of_computed : (k l : ℕ) (x : Record) → is_computed k l x ≡ true → is_of k l x ≡ true
+of_computed k l (record_of.Computed a m) z = z
+of_computed k l (record_of.Created a) z = absurd cc
+of_computed k l (record_of.Spent a b c) z = absurd cc
+of_computed k l (record_of.Written a b c d) z = absurd cc
+of_computed k l (record_of.Closed a b c) z = absurd cc
+of_computed k l (record_of.Struck a b c) z = absurd cc
+of_computed k l (record_of.Replaced a b c) z = absurd cc
 
 module _ (e : Setting) (s : Core) (inv : Invariant e s) where
   -- a job of a life exists at most once
@@ -61,4 +73,5 @@ module _ (e : Setting) (s : Core) (inv : Invariant e s) where
       by_its_job = λ n low. let a = within (struck_idly (e.plan.strike n) n) in let b = (inv.strikes.each n low).by_its_job in omega (arith, a, b);
       lives = suspect_lives;
       ports = λ p q z. (inv.keys.of_notify p q (let a = within (items (notifies p q)) in omega (arith, a, z))).0;
+      computed = λ k l z. let r = count_some (is_computed k l) v.records z in let a = r.2 (is_of k l) (of_computed k l r.0 r.1) in let b = within (noted (is_of k l)) in inv.records.lives.reached k l (omega (arith, a, b));
     }
