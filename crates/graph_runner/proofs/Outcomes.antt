@@ -1,5 +1,5 @@
 -- From what workers come to, to what the run of a graph comes to.
-use Rattle.std.proofs.Common.{◌≡◌, ℕ, ◌^◌, ◌<◌, ◌≤◌, ℤ, List, [], length, Option, None, Some, Result, Ok, Err, inl, inr, refl, sym, subst}
+use Rattle.std.proofs.Common.{◌≡◌, ℕ, ◌^◌, ◌<◌, ◌≤◌, ℤ, List, [], length, Option, None, Some, Result, Ok, Err, inl, inr, ap, refl, sym, subst, arith}
 use Rattle.std.specs.Result.{IfErr}
 use Rattle.std.proofs.lemmas.Bool.{cases_lt}
 use Rattle.graph_model.specs.Graph.{Graph}
@@ -14,6 +14,7 @@ use Rattle.core_state.specs.Tests.{is_any_replaced}
 use Rattle.run_bounds.specs.Budgets.{all_places, enough_turns}
 use Rattle.run_bounds.specs.Storm.{enough_turns_of}
 use Rattle.run_bounds.proofs.Enough.{enough_planned}
+use Rattle.worker_pool.specs.Calling.{all_calls, calls_for}
 use Rattle.worker_pool.specs.Completing.{HasOneVersion, IsComplete, StrikesNoBlock}
 use Rattle.worker_pool.specs.Ends.{EndCalls, EndTells, IsFinished, IsNotShort, NoneMissing}
 use Rattle.worker_pool.specs.declared.end.Why.{Why}
@@ -86,10 +87,10 @@ kept_tells g outcome plan lives why.OutOfMemory records kept same tells = tt
 kept_tells g outcome plan lives (why.LivesSpent k l c) records kept same tells = subst (λ (rs : List Record). EndTells g outcome plan lives (why.LivesSpent k l c) rs) (sym (same tt)) tells
 kept_tells g outcome plan lives (why.ScheduleShort pending) records kept same tells = subst (λ (rs : List Record). EndTells g outcome plan lives (why.ScheduleShort pending) rs) (sym (same tt)) tells
 
-pub kept_calls : (old now : List (Option (List Note))) (reason : Why) (records kept : List Record) → (NoneMissing reason → kept ≡ records) → EndCalls old now reason records → EndCalls old now reason kept
-kept_calls old now why.OutOfMemory records kept same calls = calls
-kept_calls old now (why.LivesSpent k l c) records kept same calls = subst (λ (rs : List Record). EndCalls old now (why.LivesSpent k l c) rs) (sym (same tt)) calls
-kept_calls old now (why.ScheduleShort pending) records kept same calls = subst (λ (rs : List Record). EndCalls old now (why.ScheduleShort pending) rs) (sym (same tt)) calls
+pub kept_calls : (g : Graph) (old now : List (Option (List Note))) (reason : Why) (records kept : List Record) → (NoneMissing reason → kept ≡ records) → EndCalls g old now reason records → EndCalls g old now reason kept
+kept_calls g old now why.OutOfMemory records kept same calls = calls
+kept_calls g old now (why.LivesSpent k l c) records kept same calls = subst (λ (rs : List Record). EndCalls g old now (why.LivesSpent k l c) rs) (sym (same tt)) calls
+kept_calls g old now (why.ScheduleShort pending) records kept same calls = subst (λ (rs : List Record). EndCalls g old now (why.ScheduleShort pending) rs) (sym (same tt)) calls
 
 -- where room was refused, a run says nothing of its plan
 unanswered : (g : Graph) (plan : List Strike) (lives : ℕ) (records : List Record) → IsComplete g plan lives why.OutOfMemory records
@@ -137,19 +138,20 @@ cut Holds Over g outcome plan lives reason records news holds tells complete not
 
 pub short : (Holds : List Strike → Graph → Outcome → Type 0) (Refuses : Ending → Type 0) (Over : Graph → List Strike → List Record → Type 0) (g : Graph) (outcome : Outcome) (plan : List Strike) (lives : ℕ) (reason : Why) (records : List Record) (news : List (List Note))
     → Holds plan g outcome → RunComes g outcome plan lives (Err reason) records news → IsDue Over g plan records reason → Fails Holds Refuses Over lives records news (run_ending reason)
-short Holds Refuses Over g outcome plan lives why.OutOfMemory records news holds comes due = within plan g outcome holds comes.cleared
+short Holds Refuses Over g outcome plan lives why.OutOfMemory records news holds comes due = within plan g outcome holds comes.cleared comes.needed
 short Holds Refuses Over g outcome plan lives (why.LivesSpent k l c) records news holds comes due =
     cut Holds Over g outcome plan lives (why.LivesSpent k l c) records news holds comes.tells comes.answers (comes.noted tt) due
 short Holds Refuses Over g outcome plan lives (why.ScheduleShort pending) records news holds comes due =
     cut Holds Over g outcome plan lives (why.ScheduleShort pending) records news holds comes.tells comes.answers (comes.noted tt) due
 
 -- a run for which room was refused
-pub unrun : (g : Graph) (outcome : Outcome) (plan : List Strike) (lives : ℕ) (records : List Record) (news : List (List Note)) → records ≡ [] → RunComes g outcome plan lives (Err why.OutOfMemory) records news
-unrun g outcome plan lives records news none = record {
+pub unrun : (g : Graph) (outcome : Outcome) (plan : List Strike) (lives : ℕ) (records : List Record) (news : List (List Note)) → records ≡ [] → all_calls news ≡ [] → RunComes g outcome plan lives (Err why.OutOfMemory) records news
+unrun g outcome plan lives records news none untold = record {
   tells = tt;
   answers = unanswered g plan lives records;
   noted = λ missing. absurd missing;
   cleared = none;
+  needed = λ k l told. absurd (let a : calls_for k l (all_calls news) ≡ 0 = ap (calls_for k l) untold in omega (arith, a, told));
 }
 
 -- what is told of a source is none of the ends of a run

@@ -1,13 +1,15 @@
 -- What probes are told.
-use Rattle.std.proofs.Common.{◌≡◌, suc, ℤ, List, [], ◌∷◌, ◌++◌, map, Option, Some, None, Result, Ok, Err, refl, sym, subst, ap, arith, append-nil}
+use Rattle.std.proofs.Common.{◌≡◌, suc, ◌<◌, ℤ, List, [], ◌∷◌, ◌++◌, map, Option, Some, None, Result, Ok, Err, refl, sym, subst, ap, arith, append-nil}
 use Rattle.std.specs.Option.{option_map}
+use Rattle.graph_model.specs.Graph.{Graph}
 use Rattle.graph_model.specs.Notes.{Note}
 use Rattle.graph_model.specs.declared.record.Record.{Record}
-use Rattle.worker_pool.specs.Calling.{AddCalls, all_calls}
+use Rattle.worker_pool.specs.Calling.{AddCalls, all_calls, calls_for}
 use Rattle.worker_pool.specs.Ends.{HasAllRecords, RunCalls}
 use Rattle.worker_pool.specs.declared.end.Why.{Why}
 use Rattle.worker_pool.specs.declared.end.Why.TheVariants as why
 use Rattle.graph_runner.specs.Notes.{AreRecorded, Told}
+use Rattle.graph_runner.specs.Workers.{IsNeeded}
 
 known_same : (known : Option (List Note)) → known ≡ option_map (λ ns. ns ++ []) known
 known_same None = refl
@@ -69,10 +71,17 @@ told_whole notes before after rest ps qs news was is adds =
     (subst (λ xs. Told (λ n. n) xs (map notes qs) (news ++ no_news rest)) was
     (subst (λ xs. Told (λ n. n) (before ++ rest) xs (news ++ no_news rest)) (sym is) (told_front (λ n. n) before after rest news (told_by before after news adds))))
 
--- the calls of kernels, and with no record missing just what is recorded
-pub run_told : (before now : List (Option (List Note))) (made : Result (List ℤ) Why) (records : List Record) → RunCalls before now made records
-    → (news : List (List Note)) × AddCalls before now news × (HasAllRecords made → AreRecorded news records)
-run_told before now (Ok value) records calls = (calls.news, calls.calls, λ all. calls.as_often)
-run_told before now (Err why.OutOfMemory) records calls = (calls.news, calls.calls, λ none. absurd none)
-run_told before now (Err (why.LivesSpent k l c)) records calls = (calls.news, calls.calls, λ all. calls.as_often)
-run_told before now (Err (why.ScheduleShort pending)) records calls = (calls.news, calls.calls, λ all. calls.as_often)
+-- the calls of kernels: with no record missing just what is recorded, and where room was refused of tasks alone that the sink needs
+pub run_told : (g : Graph) (before now : List (Option (List Note))) (made : Result (List ℤ) Why) (records : List Record) → RunCalls g before now made records
+    → (news : List (List Note)) × AddCalls before now news × (HasAllRecords made → AreRecorded news records) × IsNeeded g made news
+run_told g before now (Ok value) records calls = (calls.news, calls.calls, (λ all. calls.as_often), tt)
+run_told g before now (Err why.OutOfMemory) records calls = (calls.news, calls.calls, (λ none. absurd none), calls.needed)
+run_told g before now (Err (why.LivesSpent k l c)) records calls = (calls.news, calls.calls, (λ all. calls.as_often), tt)
+run_told g before now (Err (why.ScheduleShort pending)) records calls = (calls.news, calls.calls, (λ all. calls.as_often), tt)
+
+-- probes behind those of the kernels are told nothing
+pub needed_front : {P : Type 0} (g : Graph) (rest : List P) (made : Result (List ℤ) Why) (news : List (List Note)) → IsNeeded g made news → IsNeeded g made (news ++ no_news rest)
+needed_front g rest (Ok value) news needed = tt
+needed_front g rest (Err why.OutOfMemory) news needed = λ k l told. needed k l (subst (λ (ns : List Note). 0 < calls_for k l ns) (calls-front rest news) told)
+needed_front g rest (Err (why.LivesSpent k l c)) news needed = tt
+needed_front g rest (Err (why.ScheduleShort pending)) news needed = tt

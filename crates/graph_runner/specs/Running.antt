@@ -5,7 +5,7 @@ use Rattle.graph_model.specs.Notes.{Note}
 use Rattle.graph_model.specs.Serial.{Outcome}
 use Rattle.graph_model.specs.declared.record.Record.{Record}
 use Rattle.graph_model.specs.declared.plan.Strike.{Strike}
-use Rattle.worker_pool.specs.Calling.{all_calls}
+use Rattle.worker_pool.specs.Calling.{AreNeeded, all_calls}
 use Rattle.worker_pool.specs.Completing.{AnswersPlan, IsComplete}
 use Rattle.worker_pool.specs.Ends.{EndTells, IsFinished}
 use Rattle.worker_pool.specs.declared.end.Why.{Why}
@@ -43,10 +43,10 @@ pub record IsIdle (records : List Record) (news : List (List Note)) : Type 0 whe
   pub unrecorded : records ≡ []
   pub untold : all_calls news ≡ []
 
--- Room was refused. Before a run nothing was computed; a run that was refused room leaves no records; behind a run to the serial value, room for its text was.
+-- Room was refused. Before a run nothing was computed; a run that was refused room leaves no records, and the probes were told of tasks alone that the sink needs; behind a run to the serial value, room for its text was.
 pub data LacksRoom (Holds : List Strike → Graph → Outcome → Type 0) (Refuses : Ending → Type 0) (records : List Record) (news : List (List Note)) : Type 0 where
   before : Refuses OutOfMemory → IsIdle records news → LacksRoom Holds Refuses records news
-  within : (plan : List Strike) (graph : Graph) (outcome : Outcome) → Holds plan graph outcome → records ≡ [] → LacksRoom Holds Refuses records news
+  within : (plan : List Strike) (graph : Graph) (outcome : Outcome) → Holds plan graph outcome → records ≡ [] → AreNeeded graph news → LacksRoom Holds Refuses records news
   behind : (value : List ℤ) → IsRun Holds value records news → LacksRoom Holds Refuses records news
 
 -- why there is no value of a graph, where no life above this one is allowed: the run was cut short, by its turns only where they may be over; or, as told, there was nothing to be run, and nothing was

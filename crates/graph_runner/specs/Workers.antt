@@ -5,6 +5,7 @@ use Rattle.graph_model.specs.Notes.{Note}
 use Rattle.graph_model.specs.Serial.{Outcome}
 use Rattle.graph_model.specs.declared.plan.Strike.{Strike}
 use Rattle.graph_model.specs.declared.record.Record.{Record}
+use Rattle.worker_pool.specs.Calling.{AreNeeded}
 use Rattle.worker_pool.specs.Completing.{AnswersPlan, IsComplete}
 use Rattle.worker_pool.specs.Ends.{HasAllRecords, RunTells}
 use Rattle.worker_pool.specs.declared.end.Why.{Why}
@@ -30,6 +31,13 @@ IsCleared (Err why.OutOfMemory) records = records ≡ []
 IsCleared (Err (why.LivesSpent k l c)) records = Unit {0}
 IsCleared (Err (why.ScheduleShort pending)) records = Unit {0}
 
+-- where room was refused, the probes were told of tasks alone that the sink needs
+abbrev pub IsNeeded : Graph → Result (List ℤ) Why → List (List Note) → Type 0
+IsNeeded g (Ok value) news = Unit {0}
+IsNeeded g (Err why.OutOfMemory) news = AreNeeded g news
+IsNeeded g (Err (why.LivesSpent k l c)) news = Unit {0}
+IsNeeded g (Err (why.ScheduleShort pending)) news = Unit {0}
+
 -- what a run says of its plan
 abbrev pub RunAnswers : Graph → List Strike → ℕ → Result (List ℤ) Why → List Record → Type 0
 RunAnswers g strikes lives (Ok value) records = AnswersPlan g strikes records
@@ -41,3 +49,4 @@ pub record RunComes (g : Graph) (outcome : Outcome) (strikes : List Strike) (liv
   pub answers : RunAnswers g strikes lives made records
   pub noted : HasAllRecords made → AreRecorded news records
   pub cleared : IsCleared made records
+  pub needed : IsNeeded g made news

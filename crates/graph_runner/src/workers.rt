@@ -36,7 +36,7 @@ fn run_at_pace<R: Threads + Wait + Sync, G: TaskGraph, Ke: Kernel>(
     ensures kernels { IfOk result (λ f. SameKernels Ke.outcome Ke.fits kernels.items f.kernels.items) }
     ensures answers { IfOk result (λ f. AnswersPlan (G.graph graph.now) plan.now f.records.items) }
     ensures ended { IfErr result (λ r. EndTells (G.graph graph.now) (first_outcome Ke.outcome kernels.items) plan.now terms.now.lives r.why r.records.items) }
-    ensures end_calls { IfErr result (λ r. EndCalls (map Ke.calls kernels.items) (map Ke.calls r.kernels.items) r.why r.records.items) }
+    ensures end_calls { IfErr result (λ r. EndCalls (G.graph graph.now) (map Ke.calls kernels.items) (map Ke.calls r.kernels.items) r.why r.records.items) }
     ensures end_kernels { IfErr result (λ r. SameKernels Ke.outcome Ke.fits kernels.items r.kernels.items) }
     ensures complete { IfErr result (λ r. IsComplete (G.graph graph.now) plan.now terms.now.lives r.why r.records.items) }
     ensures due { IfErr result (λ r. IsDue (MayEnd terms.now.workers terms.now.pace) (G.graph graph.now) plan.now r.records.items r.why) }
@@ -77,7 +77,7 @@ fn run_kernels<R: Threads + Wait + Sync, G: TaskGraph, Ke: Kernel>(
     requires can { CanRun (G.graph graph.now) (first_outcome Ke.outcome kernels.items) (FirstFits Ke.fits kernels.items) }
     ensures tells { RunTells (G.graph graph.now) (first_outcome Ke.outcome kernels.items) plan.now terms.now.lives result.0 result.1.items }
     ensures answers { RunAnswers (G.graph graph.now) plan.now terms.now.lives result.0 result.1.items }
-    ensures calls { RunCalls (map Ke.calls kernels.items) (map Ke.calls result.2.items) result.0 result.1.items }
+    ensures calls { RunCalls (G.graph graph.now) (map Ke.calls kernels.items) (map Ke.calls result.2.items) result.0 result.1.items }
     ensures due { IfErr result.0 (IsDue (MayEnd terms.now.workers terms.now.pace) (G.graph graph.now) plan.now result.1.items) }
     ensures cleared { IsCleared result.0 result.1.items }
     ensures count { vec_len result.2 ≡ vec_len kernels }

@@ -1,5 +1,5 @@
 -- Why a run ended without the value, from the laws of its closed table.
-use Rattle.std.proofs.Common.{◌≡◌, ◌≢◌, ◌∙◌, ℕ, ℤ, ◌<◌, ◌≤◌, Bool, true, false, cond, eqb, List, ◌++◌, Option, Some, None, ap, subst, sym, refl, arith}
+use Rattle.std.proofs.Common.{◌≡◌, ◌≢◌, ◌∙◌, ℕ, ℤ, ◌<◌, ◌≤◌, Bool, true, false, cond, eqb, List, ◌++◌, Option, Some, None, slice_index, ap, subst, sym, refl, arith}
 use Rattle.std.proofs.lemmas.Bool.{eq-eqb, eqb-true}
 use Rattle.graph_model.specs.Graph.{Graph as TaskGraph}
 use Rattle.graph_model.specs.Serial.{Outcome, serial}
@@ -10,9 +10,12 @@ use Rattle.core_state.specs.Counts.{count}
 use Rattle.core_state.specs.Tests.{is_computed}
 use Rattle.core_state.specs.Graph.{Graph, Setting, greatest_life}
 use Rattle.core_state.specs.Rooted.{root_key, setting_of}
+use Rattle.core_state.specs.declared.block.BlockCells.{BlockCells}
+use Rattle.core_state.specs.declared.views.View.{View}
+use Rattle.core_steps.specs.Table.{IsClosing}
 use Rattle.core_laws.specs.Lists.{RootReplaced, SuspectShown}
 use Rattle.worker_pool.proofs.Closing.{same_computed}
-use Rattle.worker_pool.specs.Ends.{EndTells, IsFinished, IsNotShort, IsSpent, NoneMissing}
+use Rattle.worker_pool.specs.Ends.{EndTells, IsFinished, IsNotShort, IsSpent, NoneMissing, WasLeft}
 use Rattle.worker_pool.specs.Ends.IsSpent.{of_root, of_task}
 use Rattle.worker_pool.specs.Closing.{ClosedTells, EndedBy, IsQuietStop, LeavesPending, SpentBy, StopShown, WithRoot, is_whole}
 use Rattle.worker_pool.specs.Closing.WithRoot.{all, refused}
@@ -21,6 +24,7 @@ use Rattle.worker_pool.specs.declared.end.Why.TheVariants as why
 use Rattle.worker_pool.specs.declared.pool.Stop.{Stop}
 use Rattle.worker_pool.specs.declared.pool.Stop.TheVariants as stop
 use Rattle.worker_pool.specs.declared.worker.Spent.{Spent}
+use Rattle.std.proofs.Math.Logic.{∥∥₁_map}
 use Rattle.std.proofs.lemmas.Option.{same_Some}
 use mathlib.Core.Bool.{true≢false}
 
@@ -47,9 +51,9 @@ module _ (g : TaskGraph) (outcome : Outcome) (strikes : List Strike) (lives : �
     }
 
     -- the turns were over
-    pub cut_short : (told : Why) (records : List Record) → pending ≢ 0 → WithRoot (why.ScheduleShort pending) tasks root told records → EndTells g outcome strikes lives told records
-    cut_short told records some (all is are) = subst (λ w. EndTells g outcome strikes lives w records) (sym is) (some, record { tasks = tasks; root = root; records_are = are; lawful = laws.of_tasks; of_root = laws.of_root })
-    cut_short told records some (refused is) = subst (λ w. EndTells g outcome strikes lives w records) (sym is) tt
+    pub cut_short : (told : Why) (records : List Record) → ∥ WasLeft e pending tasks root ∥₁ → pending ≢ 0 → WithRoot (why.ScheduleShort pending) tasks root told records → EndTells g outcome strikes lives told records
+    cut_short told records left some (all is are) = subst (λ w. EndTells g outcome strikes lives w records) (sym is) (some, record { tasks = tasks; root = root; records_are = are; lawful = laws.of_tasks; of_root = laws.of_root; left = left })
+    cut_short told records left some (refused is) = subst (λ w. EndTells g outcome strikes lives w records) (sym is) tt
 
     -- the last life of a task: the task is named, with all its records
     spent_task : (s : Spent) (told : Why) (records : List Record) → eqb s.key.0 root_key ≡ false → s.life ≡ greatest_life e s.key.0 → SuspectShown e tasks root s.key.0 s.life s.cause → (told ≡ why.LivesSpent s.key s.life s.cause) × (records ≡ tasks) → EndTells g outcome strikes lives told records
@@ -67,10 +71,14 @@ module _ (g : TaskGraph) (outcome : Outcome) (strikes : List Strike) (lives : �
     spent_tells s told records shown false apart by = spent_task s told records apart shown.0 shown.1 by
 
     -- why a run ended without the value, by what ended its turns
-    pub ended_tells : (x : Stop) (told : Why) (records : List Record) → StopShown e tasks root x → (x ≡ stop.Over → pending ≢ 0) → EndedBy g.sink x pending tasks root told records → EndTells g outcome strikes lives told records
-    ended_tells stop.OutOfMemory told records shown some by = subst (λ w. EndTells g outcome strikes lives w records) (sym by) tt
-    ended_tells stop.Over told records shown some by = cut_short told records (some refl) by
-    ended_tells (stop.Spent s) told records shown some by = spent_tells s told records shown (eqb s.key.0 root_key) refl by
+    pub ended_tells : (x : Stop) (told : Why) (records : List Record) → ∥ WasLeft e pending tasks root ∥₁ → StopShown e tasks root x → (x ≡ stop.Over → pending ≢ 0) → EndedBy g.sink x pending tasks root told records → EndTells g outcome strikes lives told records
+    ended_tells stop.OutOfMemory told records left shown some by = subst (λ w. EndTells g outcome strikes lives w records) (sym by) tt
+    ended_tells stop.Over told records left shown some by = cut_short told records left (some refl) by
+    ended_tells (stop.Spent s) told records left shown some by = spent_tells s told records shown (eqb s.key.0 root_key) refl by
+
+-- a closed table left what its first word says
+pub was_left : (e : Setting) (pending : ℕ) (ws : List ℕ) (bs : List (Option BlockCells)) (tasks root : List Record) → pending ≡ slice_index ws 0 → ∥ ((views : List View) × IsClosing e views ws bs tasks root) ∥₁ → ∥ WasLeft e pending tasks root ∥₁
+was_left e pending ws bs tasks root is meets = ∥∥₁_map meets (λ m. record { views = m.0; words = ws; blocks = bs; pending_is = is; closing = m.1 })
 
 -- the turns that ended of themselves left something pending, where the run is not whole
 pub not_whole : (x : Stop) (pending : ℕ) → is_whole x pending ≡ false → x ≡ stop.Over → pending ≢ 0

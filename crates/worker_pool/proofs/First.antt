@@ -12,6 +12,7 @@ use Rattle.core_state.specs.Counts.{word_in}
 use Rattle.core_state.specs.Lines.{HasLines, came_lines}
 use Rattle.core_state.specs.Sure.{IsSure}
 use Rattle.core_state.proofs.Base.Counting.{eqb_here}
+use Rattle.core_state.proofs.Base.Sums.{total_within}
 use Rattle.core_state.proofs.Own.Sure.{sure_of}
 use Rattle.core_state.specs.Rooted.{graph_of, root_key}
 use Rattle.core_state.specs.Shapes.{IsLayoutOf}
@@ -25,7 +26,7 @@ use Rattle.core_state.specs.Views.{bare, blank, opener, all_parts}
 use Rattle.core_state.specs.declared.views.Known.{Known}
 use Rattle.core_state.specs.declared.views.View.{View}
 use Rattle.core_steps.specs.Table.{IsSound, Plain, core_by, shape_of, view_in}
-use Rattle.core_steps.proofs.Seats.{seat_within}
+use Rattle.core_steps.proofs.Changing.{elem_at}
 use Rattle.core_steps.proofs.Telling.{key_in-suc}
 use Rattle.recovery.specs.Memory.{KnowsKey}
 use Rattle.compute_notify.specs.declared.duty.Duty.{Duty}
@@ -88,9 +89,9 @@ are_new g row count ws w t all many new begins = record {
 pub first_count : (e : Setting) (knows : List Known) (workers : ℕ) → 1 ≤ workers → length (begun_views e knows workers) ≡ workers
 first_count e knows workers some = let a : length (replicate (workers - 1) (bare 1 knows)) ≡ workers - 1 = length-replicate (workers - 1) (bare 1 knows) in omega (arith, a, some)
 
--- a sound table tells of its first view what holds of each view
-pub opener_sure : (e : Setting) (p : Plain) → 0 < length p.views → IsSound e p → IsSure e (view_in p.views 0)
-opener_sure e p some sound = sure_of e (core_by p.shape p.words p.blocks p.views) sound.holds (view_in p.views 0) (seat_within p 0 some)
+-- a sound table tells of each of its views what holds of a view
+pub views_sure : (e : Setting) (p : Plain) → IsSound e p → All (IsSure e) p.views
+views_sure e p sound i d low = sure_of e (core_by p.shape p.words p.blocks p.views) sound.holds (slice_index_or p.views i d) (λ f. total_within p.views i (slice_index_or p.views i d) f (elem_at p.views i d low))
 
 module _ (g : TaskGraph) (e : Setting) (run : IsRun g e) (knows : List Known) (workers : ℕ) (vs : List View) (views : vs ≡ begun_views e knows workers) where
   abbrev pub row : ℕ

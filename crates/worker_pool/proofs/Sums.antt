@@ -1,8 +1,10 @@
 -- The calls of all kernels against the records of all views.
-use Rattle.std.proofs.Common.{◌≡◌, ◌≢◌, ◌∙◌, ℕ, ℤ, zero, suc, ◌+◌, ◌<◌, Bool, true, false, cond, eqb, ◌&&◌, List, [], ◌∷◌, ◌++◌, Option, None, Result, Ok, Err, length, slice_index_or, ap, subst, sym, refl, arith}
+use Rattle.std.proofs.Common.{◌≡◌, ◌≢◌, ◌∙◌, All, ⊎_elim, ℕ, ℤ, zero, suc, ◌+◌, ◌<◌, Bool, true, false, cond, eqb, ◌&&◌, List, [], ◌∷◌, ◌++◌, Option, None, Result, Ok, Err, length, slice_index_or, ap, subst, sym, refl, arith}
 use mathlib.Core.Logic.{dite}
 use native.Mathlib.Decide.{ℕ_discrete}
+use Rattle.graph_model.specs.Graph.{Graph as TaskGraph, IsTask}
 use Rattle.graph_model.specs.Notes.{Note}
+use Rattle.graph_model.specs.Reaching.{IsReachable}
 use Rattle.graph_model.specs.declared.record.Record.{Record}
 use Rattle.graph_model.specs.declared.record.Record.TheVariants as record_of
 use Rattle.core_state.specs.Counts.{bump, count, noted, total_of}
@@ -12,7 +14,9 @@ use Rattle.core_state.specs.declared.views.View.{View}
 use Rattle.core_state.proofs.Seats.View.{count_both}
 use Rattle.core_state.proofs.Base.Sums.{total_add, total_below}
 use Rattle.core_steps.specs.Table.{is_kept, is_root_replaced, view_in}
-use Rattle.core_state.specs.Graph.{Setting}
+use Rattle.core_state.specs.Graph.{Reached, Setting}
+use Rattle.core_state.specs.Sure.{IsSure}
+use Rattle.core_state.proofs.Start.Setting.{needed_of}
 use Rattle.core_state.specs.declared.block.BlockCells.{BlockCells}
 use Rattle.core_laws.specs.Lists.{AreOfTasks}
 use Rattle.worker_pool.specs.Ends.{HasAllRecords, RunCalls}
@@ -22,7 +26,7 @@ use Rattle.worker_pool.proofs.Closing.{kept_computed, no_root_computed}
 use Rattle.worker_pool.proofs.Calls.{none_added}
 use Rattle.worker_pool.specs.Calling.{AddCalls, AddsCalls, CalledAsRecorded, HasCalled, OnlyCalled, all_calls, calls_for}
 use Rattle.worker_pool.specs.Joining.{HaveEnded}
-use Rattle.worker_pool.specs.Pooling.{KernelsCalled}
+use Rattle.worker_pool.specs.Pooling.{IsRun, KernelsCalled}
 use Rattle.worker_pool.proofs.Threading.Joining.{noted_adds}
 
 -- the new calls of all kernels, and how often each of them was made
@@ -62,10 +66,6 @@ gathered (b ∷ bs) [] vs same count each = absurd (omega (arith, same))
 gathered (b ∷ bs) (c ∷ cs) [] same count each = absurd (omega (arith, count))
 gathered (b ∷ bs) (c ∷ cs) (v ∷ vs) same count each = gathered_more b c bs cs v vs (each 0 (omega arith)) (gathered bs cs vs (omega (arith, same)) (omega (arith, count)) (λ i low. each (suc i) (omega (arith, low))))
 
--- whatever the views hold, no call is lost
-pub only_called : (before now : List (Option (List Note))) (vs : List View) → length vs ≡ length before → KernelsCalled before now vs → OnlyCalled before now
-only_called before now vs count called = let all = gathered before now vs called.same_count count called.each in record { news = all.news; calls = all.calls }
-
 -- where the records are those of all views, but for those of the root, calls and recorded results are as many of each
 pub called_as_recorded : (before now : List (Option (List Note))) (vs : List View) (records : List Record) → length vs ≡ length before → KernelsCalled before now vs → ((k l : ℕ) → k ≢ root_key → count (is_computed k l) records ≡ total_of vs (noted (is_computed k l))) → ((l : ℕ) → count (is_computed root_key l) records ≡ 0) → CalledAsRecorded before now records
 called_as_recorded before now vs records many called of_tasks of_root = let all = gathered before now vs called.same_count many called.each in record {
@@ -76,19 +76,43 @@ called_as_recorded before now vs records many called of_tasks of_root = let all 
       (λ ne. all.as_often k l ne ∙ sym (of_tasks k l ne));
 }
 
+-- where the views have noted something, one of them has
+some_view : (P : View → Type 0) (vs : List View) (f : View → ℕ) → All P vs → 0 < total_of vs f → (v : View) × P v × (0 < f v)
+unfolding total_of
+some_view P [] f all z = absurd (omega (arith, z))
+some_view P (v ∷ vs) f all z = dite (ℕ_discrete (f v) 0)
+    (λ none. some_view P vs f (λ i d low. all (suc i) d (omega (arith, low))) (omega (arith, none, z)))
+    (λ some. (v, all 0 v (omega arith), omega (arith, some)))
+
+-- what a view has noted is of a task that the sink needs
+needed_by : (g : TaskGraph) (e : Setting) (v : View) → IsRun g e → IsSure e v → (k l : ℕ) → k ≢ root_key → 0 < noted (is_computed k l) v → IsTask g k × IsReachable g k
+needed_by g e v run sure k l ne some = ⊎_elim (λ is. absurd (ne is)) (λ needed. needed)
+    (needed_of g run.outcome run.laws k (subst (λ (d : Setting). Reached d.graph k) run.setting_is (sure.computed k l some)))
+
+-- whatever the views have noted, no call is lost, and each is for a task that the sink needs
+pub only_called : (g : TaskGraph) (e : Setting) (before now : List (Option (List Note))) (vs : List View) → IsRun g e → All (IsSure e) vs → length vs ≡ length before → KernelsCalled before now vs → OnlyCalled g before now
+only_called g e before now vs run sure many called = let all = gathered before now vs called.same_count many called.each in record {
+  news = all.news;
+  calls = all.calls;
+  needed = λ k l z. dite (ℕ_discrete k root_key)
+      (λ is. absurd (let a = subst (λ x. calls_for x l (all_calls all.news) ≡ 0) (sym is) (all.of_tasks l) in omega (arith, a, z)))
+      (λ ne. let a = all.as_often k l ne in let r = some_view (IsSure e) vs (noted (is_computed k l)) sure (omega (arith, a, z)) in needed_by g e r.0 run r.1 k l ne r.2);
+}
+
 -- kernels that were not called at all
-pub none_called_at_all : (before : List (Option (List Note))) → OnlyCalled before before
-none_called_at_all [] = record { news = []; calls = record { same_count = refl; news_count = refl; each = λ i low. absurd (omega (arith, low)) } }
-none_called_at_all (b ∷ bs) = let rest = none_called_at_all bs in record {
+pub none_called_at_all : (g : TaskGraph) (before : List (Option (List Note))) → OnlyCalled g before before
+none_called_at_all g [] = record { news = []; calls = record { same_count = refl; news_count = refl; each = λ i low. absurd (omega (arith, low)) }; needed = λ k l called. absurd (let a : 0 < 0 = called in omega (arith, a)) }
+none_called_at_all g (b ∷ bs) = let rest = none_called_at_all g bs in record {
   news = [] ∷ rest.news;
   calls = record {
     same_count = refl;
     news_count = let a = rest.calls.news_count in omega (arith, a);
     each = each rest;
   };
+  needed = rest.needed;
 }
   where
-    each : (rest : OnlyCalled bs bs) (i : ℕ) → i < length (b ∷ bs) → AddsCalls (slice_index_or (b ∷ bs) i None) (slice_index_or (b ∷ bs) i None) (slice_index_or ([] ∷ rest.news) i [])
+    each : (rest : OnlyCalled g bs bs) (i : ℕ) → i < length (b ∷ bs) → AddsCalls (slice_index_or (b ∷ bs) i None) (slice_index_or (b ∷ bs) i None) (slice_index_or ([] ∷ rest.news) i [])
     each rest zero low = none_added b
     each rest (suc i) low = rest.calls.each i (omega (arith, low))
 
@@ -129,8 +153,8 @@ replaced_recorded e vs ws bs tasks root ended =
     let all = ended.all (noted is_any_replaced) (noted_adds is_any_replaced) in omega (arith, a, b, c, d, low, high, all)
 
 -- the kernels' calls of a run, by what it came to
-pub run_calls : (before now : List (Option (List Note))) (value : Result (List ℤ) Why) (records : List Record) → OnlyCalled before now → (HasAllRecords value → CalledAsRecorded before now records) → RunCalls before now value records
-run_calls before now (Ok x) records only all = all tt
-run_calls before now (Err why.OutOfMemory) records only all = only
-run_calls before now (Err (why.LivesSpent k l c)) records only all = all tt
-run_calls before now (Err (why.ScheduleShort pending)) records only all = all tt
+pub run_calls : (g : TaskGraph) (before now : List (Option (List Note))) (value : Result (List ℤ) Why) (records : List Record) → OnlyCalled g before now → (HasAllRecords value → CalledAsRecorded before now records) → RunCalls g before now value records
+run_calls g before now (Ok x) records only all = all tt
+run_calls g before now (Err why.OutOfMemory) records only all = only
+run_calls g before now (Err (why.LivesSpent k l c)) records only all = all tt
+run_calls g before now (Err (why.ScheduleShort pending)) records only all = all tt

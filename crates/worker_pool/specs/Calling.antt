@@ -3,6 +3,7 @@ use Rattle.std.specs.Prelude.{◌≡◌, ◌≢◌, ◌↔◌, ℕ, ◌<◌, ℤ
 use Rattle.std.specs.Option.{option_map}
 use Rattle.graph_model.specs.Graph.{Graph as TaskGraph, IsTask}
 use Rattle.graph_model.specs.Notes.{Note}
+use Rattle.graph_model.specs.Reaching.{IsReachable}
 use Rattle.graph_model.specs.Serial.{Outcome, serial, inputs_of}
 use Rattle.graph_model.specs.declared.record.Record.{Record}
 use Rattle.core_state.specs.Counts.{count, noted}
@@ -68,7 +69,12 @@ pub record CalledAsRecorded (before now : List (Option (List Note))) (records : 
   pub calls : AddCalls before now news
   pub as_often : (k l : ℕ) → calls_for k l (all_calls news) ≡ count (is_computed k l) records
 
--- the kernels were called, and no call is lost
-pub record OnlyCalled (before now : List (Option (List Note))) : Type 0 where
+-- each of these calls is for a task that the sink needs
+abbrev pub AreNeeded : TaskGraph → List (List Note) → Type 0
+AreNeeded g news = (k l : ℕ) → 0 < calls_for k l (all_calls news) → IsTask g k × IsReachable g k
+
+-- the kernels were called for tasks that the sink needs alone, and no call is lost
+pub record OnlyCalled (g : TaskGraph) (before now : List (Option (List Note))) : Type 0 where
   pub news : List (List Note)
   pub calls : AddCalls before now news
+  pub needed : AreNeeded g news

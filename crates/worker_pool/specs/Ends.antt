@@ -1,5 +1,5 @@
 -- What a run hands back: the serial value with lawful records that play the plan, or why there is none, with all records.
-use Rattle.std.specs.Prelude.{◌≡◌, ◌≢◌, ℕ, ◌<◌, ℤ, List, ◌++◌, Option, Result, Ok, Err}
+use Rattle.std.specs.Prelude.{◌≡◌, ◌≢◌, ℕ, ◌<◌, ℤ, List, ◌++◌, Option, Result, Ok, Err, slice_index}
 use Rattle.graph_model.specs.Graph.{Graph as TaskGraph}
 use Rattle.graph_model.specs.Notes.{Note}
 use Rattle.graph_model.specs.Serial.{Outcome, serial}
@@ -8,9 +8,12 @@ use Rattle.graph_model.specs.declared.record.Cause.{Cause}
 use Rattle.graph_model.specs.declared.record.Record.{Record}
 use Rattle.core_state.specs.Counts.{count}
 use Rattle.core_state.specs.Tests.{is_replaced}
-use Rattle.core_state.specs.Graph.{Graph, Plan, Reached}
+use Rattle.core_state.specs.Graph.{Graph, Plan, Reached, Setting}
 use Rattle.core_state.specs.Laws.{IsGrounded, LawfulRecords, Planned, Played, Shown, SixLaws}
-use Rattle.core_state.specs.Rooted.{graph_of, plan_of}
+use Rattle.core_state.specs.Rooted.{graph_of, plan_of, setting_of}
+use Rattle.core_state.specs.declared.block.BlockCells.{BlockCells}
+use Rattle.core_state.specs.declared.views.View.{View}
+use Rattle.core_steps.specs.Table.{IsClosing}
 use Rattle.core_laws.specs.Lists.{AreOfTasks, RootReplaced, RootShown}
 use Rattle.worker_pool.specs.Calling.{CalledAsRecorded, OnlyCalled}
 use Rattle.worker_pool.specs.declared.end.Why.{Why}
@@ -43,25 +46,34 @@ pub data IsSpent (g : Graph) (p : Plan) (lives k l : ℕ) (c : Cause) (records :
   of_task : Reached g k → k ≢ g.root → l ≡ lives → TasksLawful g p records → Shown g (λ q. count q records) (IsGrounded g records) k l c → IsSpent g p lives k l c records
   of_root : (tasks root : List Record) → records ≡ tasks ++ root → k ≡ g.sink → l ≡ 65535 → TasksLawful g p tasks → RootLawful g tasks root → EachReplaced g root → Shown g (λ q. count q tasks) (IsGrounded g tasks) g.root l c → IsSpent g p lives k l c records
 
--- all records of a run that was cut short: those of tasks, and the root's replacements behind them
-pub record IsShort (g : Graph) (p : Plan) (records : List Record) : Type 0 where
+-- a closed table of this setting that left so much pending, with these records: words, blocks and records meet some views as the core's invariant says
+pub record WasLeft (e : Setting) (pending : ℕ) (tasks root : List Record) : Type 0 where
+  pub views : List View
+  pub words : List ℕ
+  pub blocks : List (Option BlockCells)
+  pub pending_is : pending ≡ slice_index words 0
+  pub closing : IsClosing e views words blocks tasks root
+
+-- all records of a run that was cut short with so much pending: those of tasks, and the root's replacements behind them
+pub record IsShort (e : Setting) (pending : ℕ) (records : List Record) : Type 0 where
   pub tasks : List Record
   pub root : List Record
   pub records_are : records ≡ tasks ++ root
-  pub lawful : TasksLawful g p tasks
-  pub of_root : RootLawful g tasks root
+  pub lawful : TasksLawful e.graph e.plan tasks
+  pub of_root : RootLawful e.graph tasks root
+  pub left : ∥ WasLeft e pending tasks root ∥₁
 
 -- what a run tells that ended without the value
 abbrev pub EndTells : TaskGraph → Outcome → List Strike → ℕ → Why → List Record → Type 0
 EndTells g outcome strikes lives why.OutOfMemory records = Unit {0}
 EndTells g outcome strikes lives (why.LivesSpent k l c) records = IsSpent (graph_of g outcome) (plan_of strikes) lives k.0 l c records
-EndTells g outcome strikes lives (why.ScheduleShort pending) records = (pending ≢ 0) × IsShort (graph_of g outcome) (plan_of strikes) records
+EndTells g outcome strikes lives (why.ScheduleShort pending) records = (pending ≢ 0) × IsShort (setting_of g outcome strikes lives) pending records
 
 -- the kernels' calls of a run that ended without the value; where room was refused, records may be missing
-abbrev pub EndCalls : List (Option (List Note)) → List (Option (List Note)) → Why → List Record → Type 0
-EndCalls before now why.OutOfMemory records = OnlyCalled before now
-EndCalls before now (why.LivesSpent k l c) records = CalledAsRecorded before now records
-EndCalls before now (why.ScheduleShort pending) records = CalledAsRecorded before now records
+abbrev pub EndCalls : TaskGraph → List (Option (List Note)) → List (Option (List Note)) → Why → List Record → Type 0
+EndCalls g before now why.OutOfMemory records = OnlyCalled g before now
+EndCalls g before now (why.LivesSpent k l c) records = CalledAsRecorded before now records
+EndCalls g before now (why.ScheduleShort pending) records = CalledAsRecorded before now records
 
 -- what a run comes to: the value, or why there is none, with its records
 abbrev pub RunTells : TaskGraph → Outcome → List Strike → ℕ → Result (List ℤ) Why → List Record → Type 0
@@ -69,9 +81,9 @@ RunTells g outcome strikes lives (Ok value) records = IsFinished g outcome strik
 RunTells g outcome strikes lives (Err why) records = EndTells g outcome strikes lives why records
 
 -- the kernels' calls of a run
-abbrev pub RunCalls : List (Option (List Note)) → List (Option (List Note)) → Result (List ℤ) Why → List Record → Type 0
-RunCalls before now (Ok value) records = CalledAsRecorded before now records
-RunCalls before now (Err why) records = EndCalls before now why records
+abbrev pub RunCalls : TaskGraph → List (Option (List Note)) → List (Option (List Note)) → Result (List ℤ) Why → List Record → Type 0
+RunCalls g before now (Ok value) records = CalledAsRecorded before now records
+RunCalls g before now (Err why) records = EndCalls g before now why records
 
 -- no record is missing
 abbrev pub NoneMissing : Why → Type 0

@@ -5,6 +5,7 @@ ghost use Rattle.compute_notify.specs.Running.{Runs};
 ghost use Rattle.core_state.specs.Graph.{Setting};
 ghost use Rattle.core_state.specs.declared.views.View.{View};
 ghost use Rattle.core_state.specs.Rooted.{root_key};
+ghost use Rattle.core_state.specs.Sure.{IsSure};
 ghost use Rattle.core_state.specs.Counts.{count};
 ghost use Rattle.core_state.specs.Tests.{is_any_replaced};
 ghost use Rattle.core_steps.specs.Table.{view_at, view_in};
@@ -220,6 +221,7 @@ impl<C: Course> Pool<C> {
     pub(crate) fn close(self) -> Option<Closed<C>>
         ensures closing { IfSome result (λ closed. HaveEnded C.setting self.table.views closed.words.items closed.blocks.items closed.records.items closed.root_replaced.items) }
         ensures words { IfSome result (λ closed. closed.words.items ≡ self.table.words) }
+        ensures sure { All (IsSure C.setting) self.table.views }
     {
         let Pool {
             mut table,

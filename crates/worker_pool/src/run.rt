@@ -37,7 +37,7 @@ fn run_all<C: Course, G: TaskGraph, Ke: Kernel>(
     requires schedule { schedule.now ≢ [] }
     requires workers { All (λ i. i < length kernels.old.items) schedule.now }
     ensures tells { RunTells (G.graph terms.now.graph.now) (first_outcome Ke.outcome kernels.old.items) terms.now.plan.now terms.now.lives result.0 result.1.items }
-    ensures calls { RunCalls (map Ke.calls kernels.old.items) (map Ke.calls kernels.new.items) result.0 result.1.items }
+    ensures calls { RunCalls (G.graph terms.now.graph.now) (map Ke.calls kernels.old.items) (map Ke.calls kernels.new.items) result.0 result.1.items }
     ensures kernels { SameKernels Ke.outcome Ke.fits kernels.old.items kernels.new.items }
     ensures paid { length kernels.old.items ≡ 1 → enough_turns_of (G.graph terms.now.graph.now) (length schedule.now) (length terms.now.plan.now) (count is_any_replaced result.1.items) ≤ turns → IfErr result.0 IsNotShort }
     ensures calm { length kernels.old.items ≡ 1 → terms.now.plan.now ≡ [] → enough_turns (G.graph terms.now.graph.now) ≤ turns → IfErr result.0 IsNotShort }
@@ -75,7 +75,7 @@ pub fn run_virtual<G: TaskGraph, Ke: Kernel>(
     ensures kernels { IfOk result (λ f. SameKernels Ke.outcome Ke.fits kernels.items f.kernels.items) }
     ensures answers { IfOk result (λ f. AnswersPlan (G.graph graph.now) plan.now f.records.items) }
     ensures ended { IfErr result (λ r. EndTells (G.graph graph.now) (first_outcome Ke.outcome kernels.items) plan.now lives r.why r.records.items) }
-    ensures end_calls { IfErr result (λ r. EndCalls (map Ke.calls kernels.items) (map Ke.calls r.kernels.items) r.why r.records.items) }
+    ensures end_calls { IfErr result (λ r. EndCalls (G.graph graph.now) (map Ke.calls kernels.items) (map Ke.calls r.kernels.items) r.why r.records.items) }
     ensures end_kernels { IfErr result (λ r. SameKernels Ke.outcome Ke.fits kernels.items r.kernels.items) }
     ensures complete { IfErr result (λ r. IsComplete (G.graph graph.now) plan.now lives r.why r.records.items) }
     ensures paid { length kernels.items ≡ 1 → IfErr result (λ r. enough_turns_of (G.graph graph.now) (length schedule.now) (length plan.now) (count is_any_replaced r.records.items) ≤ turns → IsNotShort r.why) }

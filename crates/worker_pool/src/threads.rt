@@ -3,7 +3,8 @@ ghost use Rattle.std.specs.Prelude.{◌≡◌, ◌<◌, ◌≤◌, ◌+◌, ◌+
 ghost use Rattle.atomic_table.specs.Seated.{TableId};
 ghost use Rattle.compute_notify.specs.Running.{Runs};
 ghost use Rattle.compute_notify.specs.Tasks.{some_list};
-ghost use Rattle.core_state.specs.Rooted.{root_key, setting_of};
+ghost use Rattle.core_state.specs.Rooted.{setting_of};
+ghost use Rattle.core_state.specs.Sure.{IsSure};
 ghost use Rattle.core_state.specs.Views.{all_parts};
 ghost use Rattle.graph_model.specs.Notes.{Note};
 ghost use Rattle.graph_model.specs.Serial.{Outcome};
@@ -167,8 +168,10 @@ fn put<C: Course>(passes: &mut Vec<Pass<C>>, pass: Option<Pass<C>>)
     ensures items { passes.new.items ≡ passes.old.items ++ some_list pass }
     ensures few { vec_len passes.new ≤ vec_len passes.old + 1 }
     ensures capacity { vec_capacity passes.new ≡ vec_capacity passes.old }
+    ensures sure { All (λ p. IsSure C.setting p.view) passes.old.items → All (λ p. IsSure C.setting p.view) passes.new.items }
 {
     if let Some(pass) = pass {
+        pass.is_pass();
         passes.push_reserved(pass);
     }
 }
@@ -187,6 +190,7 @@ fn gather<C: Course, Ke: Kernel>(
     ensures tables { (z : TableId) → All (λ s. IsOf z s.pass) slots.items → AreOf z passes.new.items }
     ensures views { views_of passes.new.items ≡ turned slot_view slots.items }
     ensures tells { AllTell C.setting (views_of passes.new.items) result }
+    ensures sure { All (λ p. IsSure C.setting p.view) passes.new.items }
 {
     let mut slots = slots;
     let mut all = Ending::Over;
@@ -221,6 +225,7 @@ fn run_workers<C: Course + Send + Sync, G: TaskGraph + Sync, Ke: Kernel, R: Thre
     ensures parts { IfOk result (λ l. parts_of (views_of l.passes.items) ≡ all_parts) }
     ensures count { IfOk result (λ l. length l.passes.items ≡ length kernels.old.items) }
     ensures tells { IfOk result (λ l. AllTell C.setting (views_of l.passes.items) l.ending) }
+    ensures sure { IfOk result (λ l. All (λ p. IsSure C.setting p.view) l.passes.items) }
     ensures calls { IfOk result (λ l. KernelsCalled (map Ke.calls kernels.old.items) (map Ke.calls kernels.new.items) (views_of l.passes.items)) }
     ensures kernels { SameKernels Ke.outcome Ke.fits kernels.old.items kernels.new.items }
     ensures err { OnErr result (kernels.new.items ≡ kernels.old.items) }
@@ -255,8 +260,9 @@ fn close_left<C: Course, G: TaskGraph>(
     requires parts { parts_of (views_of left.passes.items) ≡ all_parts }
     requires some { 1 ≤ length left.passes.items }
     requires tells { AllTell C.setting (views_of left.passes.items) left.ending }
+    requires sure { All (λ p. IsSure C.setting p.view) left.passes.items }
     ensures tells { (outcome : Outcome) (strikes : List Strike) (lives : ℕ) → C.setting ≡ setting_of (G.graph graph.now) outcome strikes lives → RunTells (G.graph graph.now) outcome strikes lives result.0 result.1.items }
-    ensures calls { (before now : List (Option (List Note))) → length before ≡ length left.passes.items → KernelsCalled before now (views_of left.passes.items) → C.setting.graph.root ≡ root_key → RunCalls before now result.0 result.1.items }
+    ensures calls { (before now : List (Option (List Note))) → length before ≡ length left.passes.items → KernelsCalled before now (views_of left.passes.items) → IsRun (G.graph graph.now) C.setting → RunCalls (G.graph graph.now) before now result.0 result.1.items }
     ensures waits { IfErr result.0 IsNotShort }
 {
     let Left {
@@ -288,7 +294,7 @@ fn run_all<C: Course + Send + Sync, G: TaskGraph + Sync, Ke: Kernel, R: Threads 
     requires alike { AreAlike Ke.outcome Ke.fits kernels.old.items }
     requires kernels { (1 ≤ length kernels.old.items) × (length kernels.old.items ≤ 64) }
     ensures tells { RunTells (G.graph terms.now.graph.now) (first_outcome Ke.outcome kernels.old.items) terms.now.plan.now terms.now.lives result.0 result.1.items }
-    ensures calls { RunCalls (map Ke.calls kernels.old.items) (map Ke.calls kernels.new.items) result.0 result.1.items }
+    ensures calls { RunCalls (G.graph terms.now.graph.now) (map Ke.calls kernels.old.items) (map Ke.calls kernels.new.items) result.0 result.1.items }
     ensures kernels { SameKernels Ke.outcome Ke.fits kernels.old.items kernels.new.items }
     ensures waits { IfErr result.0 IsNotShort }
 {
@@ -318,7 +324,7 @@ pub fn run_graph<R: Threads + Wait + Sync, G: TaskGraph + Sync, Ke: Kernel + Sen
     ensures kernels { IfOk result (λ f. SameKernels Ke.outcome Ke.fits kernels.items f.kernels.items) }
     ensures answers { IfOk result (λ f. AnswersPlan (G.graph graph.now) plan.now f.records.items) }
     ensures ended { IfErr result (λ r. EndTells (G.graph graph.now) (first_outcome Ke.outcome kernels.items) plan.now lives r.why r.records.items) }
-    ensures end_calls { IfErr result (λ r. EndCalls (map Ke.calls kernels.items) (map Ke.calls r.kernels.items) r.why r.records.items) }
+    ensures end_calls { IfErr result (λ r. EndCalls (G.graph graph.now) (map Ke.calls kernels.items) (map Ke.calls r.kernels.items) r.why r.records.items) }
     ensures end_kernels { IfErr result (λ r. SameKernels Ke.outcome Ke.fits kernels.items r.kernels.items) }
     ensures complete { IfErr result (λ r. IsComplete (G.graph graph.now) plan.now lives r.why r.records.items) }
     ensures waits { IfErr result (λ r. IsNotShort r.why) }

@@ -251,6 +251,7 @@ impl Worker {
     /// Whether a block is in hand.
     pub(crate) fn has_block(&self) -> bool
         ensures none { result ≡ false → (g : Graph) (e : Setting) (v : View) → WorkerHolds g e v self.now → v.hands ≡ [] }
+        ensures some { result ≡ true → (g : Graph) (e : Setting) (v : View) → WorkerHolds g e v self.now → v.hands ≢ [] }
     {
         match &self.work {
             Work::Busy { task } => task.has_block(),

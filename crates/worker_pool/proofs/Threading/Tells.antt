@@ -3,13 +3,14 @@ use Rattle.std.proofs.Common.{◌≡◌, ◌∙◌, ℕ, zero, suc, ◌-◌, ◌
 use mathlib.Core.Logic.{dite}
 use native.Mathlib.Decide.{dec_lt}
 use Rattle.std.proofs.lemmas.List.{get_or-append_right, get_or_append_left, get_or-map, length-map, map-append}
-use Rattle.std.proofs.lemmas.List.Elements.{All-append, All-nil}
+use Rattle.std.proofs.lemmas.List.Elements.{All-append, All-map, All-nil}
 use Rattle.std.proofs.lemmas.Option.{none-some, same_Some}
 use Rattle.atomic_table.specs.Seated.{TableId}
 use Rattle.graph_model.specs.declared.record.Cause.{Cause}
 use Rattle.graph_model.specs.declared.record.Record.{Record}
 use Rattle.core_state.specs.Counts.{facts, items, total_of}
 use Rattle.core_state.specs.Graph.{Setting}
+use Rattle.core_state.specs.Sure.{IsSure}
 use Rattle.core_state.specs.Tests.{is_idle as is_seen_idle, is_suspect_for}
 use Rattle.core_state.specs.Views.{blank}
 use Rattle.core_state.specs.Words.{pending}
@@ -77,6 +78,10 @@ module _ (e : Setting) (vs : List View) (v : View) where
 -- no thread has ended
 pub tell_none : (e : Setting) → AllTell e [] ending.Over
 tell_none e = (All-nil (λ (v : View). v.hands ≡ []), All-nil (λ (v : View). 0 < facts is_seen_idle v))
+
+-- the views of passes keep what the invariant says of each
+pub views_sure : (e : Setting) (ps : List Passing) → All (λ p. IsSure e p.view) ps → All (IsSure e) (views_of ps)
+views_sure e ps all = All-map (IsSure e) (λ p. p.view) ps all
 
 -- passes whose views have no block in hand
 pub no_hands : (ps : List Passing) → AreHome (views_of ps) → NoHands ps

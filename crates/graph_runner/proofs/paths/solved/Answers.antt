@@ -30,7 +30,7 @@ returns-in_err-kernels g c =
     let same : c.kernels_of.new.probes.items ≡ ps = c.in_err-kernels.ensures.refused in (
       no_news ps,
       subst (λ qs. Told g.P.Probe.notes ps qs (no_news ps)) (sym same) (told_none g.P.Probe.notes ps),
-      rw (p.1, p.2) (solve_short _ c.in_ok-graph.graph c.in_ok-graph.plan c.args.terms.now.lives why.OutOfMemory c.args.records.now.items (no_news ps) c.in_ok-graph.ensures (unrun _ _ _ _ _ _ c.requires.records) tt),
+      rw (p.1, p.2) (solve_short _ c.in_ok-graph.graph c.in_ok-graph.plan c.args.terms.now.lives why.OutOfMemory c.args.records.now.items (no_news ps) c.in_ok-graph.ensures (unrun _ _ _ _ _ _ c.requires.records (calls-no_news ps)) tt),
     )
 
 pub run_by_workers-requires-clause-alike : goal.run_by_workers-requires-clause-alike

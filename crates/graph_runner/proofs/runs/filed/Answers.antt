@@ -2,7 +2,7 @@ use Rattle.std.proofs.Common.{◌≡◌, subst, sym}
 use Rattle.graph_runner.specs.Notes.{Told}
 use Rattle.graph_runner.proofs.Kernels.{alike, as_made, can_run}
 use Rattle.graph_runner.proofs.Outcomes.{unrun}
-use Rattle.graph_runner.proofs.Probes.{no_news, told_none}
+use Rattle.graph_runner.proofs.Probes.{calls-no_news, no_news, told_none}
 use Rattle.graph_runner.proofs.runs.filed.Goals as goal
 
 pub run_by_workers-requires-clause-alike : goal.run_by_workers-requires-clause-alike
@@ -20,4 +20,4 @@ pub returns-in-Err-clause-comes : goal.returns-in-Err-clause-comes
 returns-in-Err-clause-comes g c =
     let ps = c.args.probes.now.items in
     let same : c.kernels_of-kernels.new.probes.items ≡ ps = c.in-Err.ensures.refused in
-    (no_news ps, subst (λ qs. Told g.P.Probe.notes ps qs (no_news ps)) (sym same) (told_none g.P.Probe.notes ps), unrun _ _ _ _ _ _ c.requires.records)
+    (no_news ps, subst (λ qs. Told g.P.Probe.notes ps qs (no_news ps)) (sym same) (told_none g.P.Probe.notes ps), unrun _ _ _ _ _ _ c.requires.records (calls-no_news ps))

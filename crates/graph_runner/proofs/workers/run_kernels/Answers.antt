@@ -12,7 +12,7 @@ pub returns-in-Err-clause-answers : goal.returns-in-Err-clause-answers
 returns-in-Err-clause-answers g c = kept_answers _ _ _ c.in-Err.field-0.why c.in-Err.field-0.records.items _ c.whole_records.ensures.all c.in-Err.ensures.complete
 
 pub returns-in-Err-clause-calls : goal.returns-in-Err-clause-calls
-returns-in-Err-clause-calls g c = kept_calls _ _ c.in-Err.field-0.why c.in-Err.field-0.records.items _ c.whole_records.ensures.all c.in-Err.ensures.end_calls
+returns-in-Err-clause-calls g c = kept_calls _ _ _ c.in-Err.field-0.why c.in-Err.field-0.records.items _ c.whole_records.ensures.all c.in-Err.ensures.end_calls
 
 pub returns-in-Err-clause-cleared : goal.returns-in-Err-clause-cleared
 returns-in-Err-clause-cleared g c = cleared c.in-Err.field-0.why _ c.whole_records.ensures.cleared

@@ -16,6 +16,7 @@ loop-slot-preserved g c = let e = g.C.Course.setting in let inv = c.loop-slot.in
       tables = λ y all. let old = inv.tables y all in let one = all_taken (λ s. IsOf y s.pass) _ _ _ taken old.1 in (put_table y ps more slot.pass one.1 c.put.ensures.items old.0, one.0);
       ends = well.0;
       tells = subst (λ vs. AllTell e vs c.or-all.result) (sym view) (subst (AllTell e _) (sym c.or-all.ensures) (tell_more e (views_of ps) (slot_view slot) c.loop-slot.all slot.ending inv.tells well.1));
+      sure = c.put.ensures.sure inv.sure;
       kernel_room = let a = c.in-Some.ensures.len in let b = c.push_reserved.ensures.len in let d = c.push_reserved.ensures.capacity in omega (arith, a, b, d, inv.kernel_room);
       pass_room = let a = c.in-Some.ensures.len in let b = c.put.ensures.few in let d = c.put.ensures.capacity in omega (arith, a, b, d, inv.pass_room);
     }

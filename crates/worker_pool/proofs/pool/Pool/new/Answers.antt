@@ -1,10 +1,11 @@
 use Rattle.std.proofs.Common.{◌≡◌, ◌∙◌, ◌%◌, List, [], ap, arith, length, subst, sym}
 use Rattle.core_state.specs.Rooted.{root_key}
+use Rattle.core_state.specs.Views.{blank}
 use Rattle.core_state.specs.declared.views.View.{View}
 use Rattle.core_steps.specs.Table.{IsSound, first_views}
 use Rattle.worker_pool.specs.Pooling.{AreNew}
 use Rattle.worker_pool.proofs.Paying.Tables.{begins_alone}
-use Rattle.worker_pool.proofs.First.{cells_are, first_called, first_count, first_hold, opener_sure, root_at, shape_is}
+use Rattle.worker_pool.proofs.First.{cells_are, first_called, first_count, first_hold, root_at, shape_is, views_sure}
 use Rattle.worker_pool.proofs.pool.Pool.new.Goals as goal
 
 pub new-requires-clause-shape : goal.new-requires-clause-shape
@@ -19,7 +20,7 @@ returns-clause-holds g c = let tasks = g.G.TaskGraph.graph c.args.graph.now in l
     let count : length vs ≡ c.args.workers = ap (λ (us : List View). length us) views ∙ first_count e [] c.args.workers c.requires.workers.0 in
     let new : AreNew tasks (root_key % e.shape.rows) c.args.workers ws = subst (λ n. AreNew tasks n c.args.workers ws) (root_at tasks e c.in_ok-layout.layout run c.in_ok-layout.ensures c.root_row-row.result c.root_row-row.ensures) c.in_ok-new_workers.ensures in
     let sound : IsSound e c.in_ok-table.table = subst (IsSound e) c.drop.view_is c.drop.invariant in
-    first_hold tasks e run [] c.args.workers vs views ws new (new.same_count ∙ sym count) (opener_sure e c.in_ok-table.table (omega (arith, count, c.requires.workers.0)) sound)
+    first_hold tasks e run [] c.args.workers vs views ws new (new.same_count ∙ sym count) (views_sure e c.in_ok-table.table sound 0 blank (omega (arith, count, c.requires.workers.0)))
 
 pub returns-clause-begins : goal.returns-clause-begins
 returns-clause-begins g c = λ strikes one run. let tasks = g.G.TaskGraph.graph c.args.graph.now in let e = g.C.Course.setting in let table = c.in_ok-table.table in let ws = c.in_ok-new_workers.field-0.items in
