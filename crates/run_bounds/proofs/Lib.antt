@@ -7,6 +7,7 @@ pub mod JobChanges
 pub mod JobEvents
 pub mod Jobs
 pub mod Keys
+pub mod Moving
 pub mod Pigeons
 pub mod Prepared
 pub mod StepCosts

@@ -16,6 +16,7 @@ pub mod Preparing
 pub mod Reclosing
 pub mod Renewing
 pub mod Serving
+pub mod Several
 pub mod Slots
 pub mod Sorts
 pub mod Strikes

@@ -3,3 +3,4 @@ pub mod Hinting
 pub mod Doing
 pub mod Storm
 pub mod Struck
+pub mod Moving

@@ -20,7 +20,7 @@ module _ (m n r t p : ℕ) (some : 0 < m) (tasks : 0 < t) where
       let y : (n + r + 1) * ((t + 1) * (p + t + 2)) * 3 ≡ 3 * (n * ((t + 1) * (p + t + 2)) + r * ((t + 1) * (p + t + 2)) + (t + 1) * (p + t + 2)) = grind arith in omega (arith, x, y)
 
   -- what is counted for each turn of a schedule, with one more, is less than the number
-  below : (each turns : ℕ) → each + 1 ≤ 200 * ((n + r + 1) * ((t + 1) * (p + t + 2)) * (p + t + 2)) → turns ≤ m * each → turns < 200 * m * (n + r + 1) * (t + 1) * (p + t + 2) * (p + t + 2)
+  pub below : (each turns : ℕ) → each + 1 ≤ 200 * ((n + r + 1) * ((t + 1) * (p + t + 2)) * (p + t + 2)) → turns ≤ m * each → turns < 200 * m * (n + r + 1) * (t + 1) * (p + t + 2) * (p + t + 2)
   below each turns low made =
       let x : m * (each + 1) ≤ m * (200 * ((n + r + 1) * ((t + 1) * (p + t + 2)) * (p + t + 2))) = mul-le-mul_left m low in
       let y : m * (each + 1) ≡ m * each + m = grind arith in
