@@ -7,6 +7,7 @@ pub mod JobChanges
 pub mod JobEvents
 pub mod Jobs
 pub mod Keys
+pub mod Light
 pub mod Moving
 pub mod Pigeons
 pub mod Prepared
@@ -14,3 +15,4 @@ pub mod StepCosts
 pub mod Storm
 pub mod Tables
 pub mod Unstruck
+pub mod Weights

@@ -4,3 +4,4 @@ pub mod Doing
 pub mod Storm
 pub mod Struck
 pub mod Moving
+pub mod Light

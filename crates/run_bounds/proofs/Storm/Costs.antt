@@ -47,10 +47,10 @@ module _ (e : Setting) where
     few_ports : (k : ℕ) → 0 < count (eqb k) e.keys → e.graph.ports k ≤ n + 1
     few_ports k here = let a = one_of_sum e.graph.ports k e.keys here in omega (arith, a, places, ports)
 
-    base_few : (k : ℕ) → 0 < count (eqb k) e.keys → base k ≤ 80 * ((t + 1) * (n + t + 2))
+    base_few : (k : ℕ) → 0 < count (eqb k) e.keys → base k ≤ 40 * ((t + 1) * (2 * n + 4))
     base_few k here = let a = few_places k here in let b = few_ports k here in
-        let c : 40 * (t + 1) * (e.graph.places k + e.graph.ports k + 2) ≤ 40 * (t + 1) * (2 * (n + t + 2)) = mul-le-mul_left (40 * (t + 1)) (omega (arith, a, b)) in
-        let d : 40 * (t + 1) * (2 * (n + t + 2)) ≡ 80 * ((t + 1) * (n + t + 2)) = grind arith in
+        let c : 40 * (t + 1) * (e.graph.places k + e.graph.ports k + 2) ≤ 40 * (t + 1) * (2 * n + 4) = mul-le-mul_left (40 * (t + 1)) (omega (arith, a, b)) in
+        let d : 40 * (t + 1) * (2 * n + 4) ≡ 40 * ((t + 1) * (2 * n + 4)) = grind arith in
         let f : base k ≡ 40 * (t + 1) * (e.graph.places k + e.graph.ports k + 2) = ap (λ r. 40 * r * (e.graph.places k + e.graph.ports k + 2)) rows in omega (arith, c, d, f)
 
     first_few : sum_by base e.keys ≤ 80 * ((t + 1) * (n + t + 2))
@@ -75,10 +75,19 @@ module _ (e : Setting) where
         let d : kinds * sum_by (λ k. 1) e.keys ≡ kinds * (t + 1) = ap (λ z. kinds * z) (let f : sum_by (λ k. 1) e.keys ≡ t + 1 = omega (arith, c, many) in f) in
         let f : kinds * ((t + 1) + count is_any_replaced rs) ≡ kinds * (t + 1) + kinds * 1 * count is_any_replaced rs = grind arith in omega (arith, a, b, d, f)
 
-    -- both jobs of each life
+    -- both jobs of each life, where the first lives are counted by their places and ports
+    pub jobs_fewer : (p : List Strike) (rs : List Record) (xs : List Lived) → ((a k l : ℕ) → count (is_lived a k l) xs ≤ 1) → ((a k l : ℕ) → 0 < count (is_lived a k l) xs → (a < 2) × IsComeTo e.keys rs k l)
+        → sum_by (job_cost e p) xs ≤ 160 * ((t + 1) * (n + t + 2)) + count is_any_replaced rs * (80 * ((t + 1) * (2 * n + 4))) + 8 * length p
+    jobs_fewer p rs xs once come =
+        let a = lived_cost 2 (40 * ((t + 1) * (2 * n + 4))) base e.keys rs base_few xs once come in let b = strikes_few 2 p xs once (λ a k l some. (come a k l some).0) in
+        let c = parted p xs in let d = first_few in
+        let f : 2 * (40 * ((t + 1) * (2 * n + 4))) * count is_any_replaced rs ≡ count is_any_replaced rs * (80 * ((t + 1) * (2 * n + 4))) = grind arith in omega (arith, a, b, c, d, f)
+
+    -- no life costs more than the first lives of all tasks
     pub jobs_few : (p : List Strike) (rs : List Record) (xs : List Lived) → ((a k l : ℕ) → count (is_lived a k l) xs ≤ 1) → ((a k l : ℕ) → 0 < count (is_lived a k l) xs → (a < 2) × IsComeTo e.keys rs k l)
         → sum_by (job_cost e p) xs ≤ 160 * ((t + 1) * (n + t + 2)) + 160 * (count is_any_replaced rs * ((t + 1) * (n + t + 2))) + 8 * length p
     jobs_few p rs xs once come =
-        let a = lived_cost 2 (80 * ((t + 1) * (n + t + 2))) base e.keys rs base_few xs once come in let b = strikes_few 2 p xs once (λ a k l some. (come a k l some).0) in
-        let c = parted p xs in let d = first_few in
-        let f : 2 * (80 * ((t + 1) * (n + t + 2))) * count is_any_replaced rs ≡ 160 * (count is_any_replaced rs * ((t + 1) * (n + t + 2))) = grind arith in omega (arith, a, b, c, d, f)
+        let a = jobs_fewer p rs xs once come in let r = count is_any_replaced rs in
+        let b : r * (80 * (t + 1)) * (2 * n + 4) ≤ r * (80 * (t + 1)) * (2 * (n + t + 2)) = mul-le-mul_left (r * (80 * (t + 1))) (omega arith) in
+        let c : r * (80 * (t + 1)) * (2 * n + 4) ≡ r * (80 * ((t + 1) * (2 * n + 4))) = grind arith in
+        let d : r * (80 * (t + 1)) * (2 * (n + t + 2)) ≡ 160 * (r * ((t + 1) * (n + t + 2))) = grind arith in omega (arith, a, b, c, d)

@@ -1,5 +1,5 @@
 -- Turns that are enough for several workers, where a third of the turns of each entry of the schedule are moves: a move is paid by a job that began, a life that was replaced, a bad block that was read or a strike that was made.
-use Rattle.std.proofs.Common.{◌≡◌, ℕ, ◌+◌, ◌-◌, ◌*◌, ◌<◌, ◌≤◌, arith, sym, subst}
+use Rattle.std.proofs.Common.{◌≡◌, ℕ, ◌+◌, ◌-◌, ◌*◌, ◌<◌, ◌≤◌, arith, subst}
 use Rattle.std.proofs.Math.Nat.{mul-le-mul_left}
 use Rattle.std.proofs.lemmas.Nat.{mul-le}
 use Rattle.run_bounds.proofs.Storm.Enough.{below}
