@@ -1,7 +1,10 @@
 -- How much of a replacement is left to do, as a number, and that each turn lets it fall.
-use Rattle.std.specs.Prelude.{◌≡◌, ◌⊎◌, ℕ, ◌+◌, ◌-◌, ◌*◌, ◌<◌, ◌≤◌, true, cond}
+use Rattle.std.specs.Prelude.{◌≡◌, ◌⊎◌, ℕ, ◌+◌, ◌-◌, ◌*◌, ◌<◌, ◌≤◌, Bool, true, false, ◌&&◌, not, cond, eqb}
+use Rattle.core_state.specs.Effects.{elected_of}
 use Rattle.core_state.specs.Graph.{Setting}
 use Rattle.core_state.specs.Words.{standing_life, replacing}
+use Rattle.core_state.specs.declared.answers.Elected.{Elected}
+use Rattle.core_state.specs.declared.answers.Elected.TheVariants as elected
 use Rattle.recovery.specs.declared.owe.Owe.{Owe}
 use Rattle.recovery.specs.declared.recover.Phase.{Phase}
 use Rattle.recovery.specs.declared.recover.Phase.TheVariants as phase
@@ -66,6 +69,16 @@ Rests e before now turn.Done n = recover_rest e now ≡ 0
 Rests e before now (turn.Met row k l c) n = recover_rest e now ≤ recover_rest e before
 Rests e before now (turn.Given row k i l) n = recover_rest e now + turn_cost before.phase ≤ recover_rest e before
 Rests e before now (turn.LivesSpent k l c) n = Unit {0}
+
+-- an election lets the suspect go: its life was replaced, or another worker replaces it and the end is not awaited
+abbrev pub lets_go : ℕ → Bool → Elected → Bool
+lets_go l waits elected.Yes = false
+lets_go l waits (elected.Replaced m) = true
+lets_go l waits (elected.Renewing m) = eqb m l && not waits
+
+-- then nothing is left to do
+abbrev pub LetsGo : Recover → Recover → ℕ → Type 0
+LetsGo before now n = lets_go before.life before.wait (elected_of before.life n) ≡ true → now ≡ record before { phase = phase.Over }
 
 -- the port is left, and the next one begins
 abbrev pub HasLeft : Reenter → Reenter → Type 0

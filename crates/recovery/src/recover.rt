@@ -45,7 +45,7 @@ impl Recover {
     ghost use Rattle.recovery.specs.Serving.{Serves};
     ghost use Rattle.recovery.specs.Reentering.{reads_mark};
     ghost use Rattle.recovery.specs.Happening.{turn_event};
-    ghost use Rattle.recovery.specs.Resting.{Rests, recover_rest};
+    ghost use Rattle.recovery.specs.Resting.{LetsGo, Rests, recover_rest};
     ghost use Rattle.recovery.specs.Owing.{owe_credits, owe_hints};
     ghost use Rattle.recovery.specs.Recovering.{Fits, IsOnward, Recovers, SpendsLife, going, is_given, is_last, is_met, is_over, is_quiet, is_spent, makes_step, phase_credits, posts, recover_lines, sees_mark, turn_hints};
 
@@ -110,6 +110,7 @@ impl Recover {
         ensures quiet { is_quiet result ≡ true }
         ensures step { MakesStep T.setting T.view T.KeyWords.made T.KeyWords.spare T.KeyWords.last T.shown T.happened T.lender T.others (turn_event (T.setting steps.old) (T.view steps.old) self.old) steps.old steps.new }
         ensures rest { Rests (T.setting steps.old) self.old self.new result (T.shown steps.new).1 }
+        ensures lost { LetsGo self.old self.new (T.shown steps.new).1 }
     {
         match steps.elect(self.row, self.life, self.cause) {
             Elected::Yes => self.go(Phase::Renew { done: 0 }),
@@ -296,6 +297,7 @@ impl Recover {
         ensures still { makes_step self.old ≡ false → steps.new ≡ steps.old }
         ensures results { SameResults (T.view steps.old) (T.view steps.new) }
         ensures rest { Rests (T.setting steps.old) self.old self.new result (T.shown steps.new).1 }
+        ensures lost { self.old.phase ≡ Phase.Suspect → makes_step self.old ≡ true → LetsGo self.old self.new (T.shown steps.new).1 }
     {
         let rooted = Rooted::of(graph);
         match &self.phase {
