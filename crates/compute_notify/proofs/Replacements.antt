@@ -1,5 +1,5 @@
 -- The turn of a replacement: what it leaves, what came above it, and how much is left.
-use Rattle.std.proofs.Common.{◌≡◌, ◌≢◌, ⊎_elim, ℕ, ◌+◌, ◌^◌, ◌<◌, ◌≤◌, bit_or, Bool, true, false, not, ◌&&◌, cond, nat_lt, eqb, List, ◌∷◌, Some, None, inl, inr, ap, arith, refl, sym, ◌∙◌, subst}
+use Rattle.std.proofs.Common.{◌≡◌, ◌≢◌, ⊎_elim, ℕ, ◌+◌, ◌^◌, ◌<◌, ◌≤◌, bit_or, Bool, true, false, not, ◌&&◌, cond, nat_lt, eqb, List, [], ◌∷◌, Some, None, inl, inr, ap, arith, refl, sym, ◌∙◌, subst}
 use Rattle.std.specs.Int.{bit_at}
 use Rattle.std.proofs.lemmas.Bool.{and_parts, eq-eqb, eqb-true}
 use Rattle.graph_model.specs.Graph.{Graph as TaskGraph}
@@ -39,6 +39,7 @@ use Rattle.compute_notify.specs.Items.{FitsCame, Goes, SpentTells, came_above, c
 use Rattle.compute_notify.specs.Resting.{Excuses, LetsFall, after_rest, came_rest, item_rest, job_rest, step_cost, suspect_rest}
 use Rattle.compute_notify.specs.Resting.Excuses.{awaited, given, marked_descriptor, marked_place, marked_port}
 use Rattle.compute_notify.specs.Running.{life_limit}
+use Rattle.compute_notify.specs.Tasks.{came_items}
 use Rattle.compute_notify.specs.declared.item.After.{After}
 use Rattle.compute_notify.specs.declared.item.Item.TheVariants as item
 use Rattle.compute_notify.proofs.Beginning.{begun_credits, begun_fits, begun_lines, begun_rest, suspect_first}
@@ -65,6 +66,14 @@ came_lines g turn.Done lives b = refl
 came_lines g (turn.Met row k l c) lives b = refl
 came_lines g (turn.Given row k i l) lives b = begun_lines g (record { row = row; key = k; life = l }) i (credit ∷ b)
 came_lines g (turn.LivesSpent k l c) lives b = refl
+
+-- where nothing is left, and nothing was met or given, nothing came
+pub nothing_came : (g : TaskGraph) (e : Setting) (w : View) (x : Phase) (t : Turn) (lives : ℕ) → x ≡ phase.Over → TurnTells g e w x t → is_met t ≡ false → is_given t ≡ false → came_items (turn_came t lives) ≡ []
+nothing_came g e w x turn.Going lives over tells met brings = absurd (let z = sym (ap is_over over) ∙ tells in cc)
+nothing_came g e w x turn.Done lives over tells met brings = refl
+nothing_came g e w x (turn.Met row k l c) lives over tells met brings = absurd cc
+nothing_came g e w x (turn.Given row k i l) lives over tells met brings = absurd cc
+nothing_came g e w x (turn.LivesSpent k l c) lives over tells met brings = refl
 
 module _ (g : TaskGraph) (e : Setting) (w : View) (now : Recover) (lives : ℕ) (limit : (k : ℕ) → life_limit k lives ≡ greatest_life e k) where
   came_fits : (t : Turn) → TurnTells g e w now.phase t → FitsCame g e w (turn_came t lives) (Some (item.Recover now))

@@ -7,7 +7,7 @@ use Rattle.graph_model.specs.declared.plan.Point.{Point}
 use Rattle.graph_model.specs.declared.plan.Point.TheVariants as point
 use Rattle.graph_model.specs.declared.plan.Strike.{Strike}
 use Rattle.graph_model.specs.declared.record.Cause.{Cause}
-use Rattle.core_state.specs.Effects.{closing_of, is_good}
+use Rattle.core_state.specs.Effects.{closing_of, elected_of, is_good}
 use Rattle.core_state.specs.Graph.{Graph, Setting}
 use Rattle.core_state.specs.Events.{Event, Event as event}
 use Rattle.core_state.specs.Packed.{notify_word}
@@ -16,7 +16,9 @@ use Rattle.core_state.specs.declared.answers.Closing.TheVariants as closing
 use Rattle.core_state.specs.declared.block.BlockCells.{BlockCells}
 use Rattle.core_state.specs.declared.job.Job.{Job}
 use Rattle.core_state.specs.declared.words.NotifyWord.{NotifyWord}
-use Rattle.recovery.specs.Resting.{owe_rest, ports_rest, recover_rest}
+use Rattle.recovery.specs.Recovering.{makes_step}
+use Rattle.recovery.specs.Resting.{lets_go, owe_rest, ports_rest, recover_rest}
+use Rattle.recovery.specs.declared.recover.Phase.TheVariants as replacing
 use Rattle.compute_notify.specs.Items.{job_item}
 use Rattle.compute_notify.specs.Striking.{seen_word, strike_left}
 use Rattle.compute_notify.specs.declared.close.Close.{Close}
@@ -175,12 +177,13 @@ abbrev pub FallsGood : Setting → Option BlockCells → Item → ℕ → ℕ �
 FallsGood e h (item.Compute c) before now = ReadsGood e h c → now + 1 ≤ before
 FallsGood e h _ before now = Unit {0}
 
--- a closing that makes no strike and finds its word moved has nothing above it and goes on with the word that it found
+-- A closing that makes no strike and finds its word moved has nothing above it and goes on with the word that it found; of a replacement whose election lets the suspect go nothing is left.
 abbrev pub LooksAgain : Graph → List Strike → ℕ → Item → List Item → Type 0
 LooksAgain g p n (item.Close c) left = strike_left g p (item.Close c) ≡ None → (x : NotifyWord) → closing_of c.duty.life (notify_word (seen_word c.duty.life c.seen)) n ≡ closing.Moved x → left ≡ item.Close (record c { seen = Some x }) ∷ []
+LooksAgain g p n (item.Recover r) left = r.phase ≡ replacing.Suspect → makes_step r ≡ true → lets_go r.life r.wait (elected_of r.life n) ≡ true → left ≡ item.Recover (record r { phase = replacing.Over }) ∷ []
 LooksAgain g p n _ left = Unit {0}
 
--- the others stay, with something above them: that closing alone, where it found its word moved
+-- the others stay, with something above them: that closing alone, where it found its word moved, and nothing to do, where a suspect goes
 pub record LeavesAbove (g : Graph) (p : List Strike) (n : ℕ) (x : Item) (others now : List Item) : Type 0 where
   pub above : List Item
   pub items_are : now ≡ others ++ above

@@ -1,7 +1,8 @@
 //! The turn of a replacement.
 ghost use Rattle.std.specs.Prelude.{None, false, length, true, ◌≡◌, ◌≤◌};
 ghost use Rattle.compute_notify.specs.Items.{Goes, SpentTells, Stands, is_spent, item_lines, turn_came};
-ghost use Rattle.compute_notify.specs.Resting.{LetsFall, after_rest, item_rest};
+ghost use Rattle.compute_notify.specs.Resting.{LetsFall, LooksAgain, after_rest, item_rest};
+ghost use Rattle.compute_notify.specs.Tasks.{after_items};
 ghost use Rattle.compute_notify.specs.Rooms.{is_bare};
 ghost use Rattle.compute_notify.specs.Running.{Runs};
 ghost use Rattle.compute_notify.specs.Stepping.{HasStepped};
@@ -65,6 +66,7 @@ pub(crate) fn replace<T: Steps, G: TaskGraph>(
     ensures still { makes_step recover ≡ false → steps.new ≡ steps.old }
     ensures step { makes_step recover ≡ true → HasStepped T.setting T.view T.KeyWords.made T.KeyWords.spare T.KeyWords.last T.shown T.happened T.lender T.others (λ v. v) (turn_event (T.setting steps.old) (T.view steps.old) recover) steps.old steps.new }
     ensures rest { makes_step recover ≡ true → LetsFall (T.setting steps.old) terms.now.plan.now (turn_event (T.setting steps.old) (T.view steps.old) recover) (T.shown steps.new).1 (item_rest (T.setting steps.old) terms.now.plan.now None (Item.Recover recover)) (after_rest (T.setting steps.old) terms.now.plan.now None result) }
+    ensures again { LooksAgain (T.setting steps.old).graph terms.now.plan.now (T.shown steps.new).1 (Item.Recover recover) (after_items result) }
 {
     let told = recover.turn(steps, terms.graph, hints);
     After::over(Item::Recover { recover }, came_of(told, terms.lives))

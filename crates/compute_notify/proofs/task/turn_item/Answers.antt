@@ -301,4 +301,4 @@ returns-in-Recover-clause-good g c = let e = g.T.Steps.setting c.args.steps.now 
 
 pub returns-in-Recover-clause-again : goal.returns-in-Recover-clause-again
 returns-in-Recover-clause-again g c = let e = g.T.Steps.setting c.args.steps.now in let p = c.args.terms.now.plan.now in let n = (g.T.Steps.shown c.replace.new.steps).1 in
-    subst (λ x. LooksAgain e.graph p n x (after_items c.replace.result)) (sym c.in-Recover.is) tt
+    subst (λ x. LooksAgain e.graph p n x (after_items c.replace.result)) (sym c.in-Recover.is) c.replace.ensures.again
