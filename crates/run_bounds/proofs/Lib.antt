@@ -8,6 +8,7 @@ pub mod JobEvents
 pub mod Jobs
 pub mod Keys
 pub mod Light
+pub mod Lost
 pub mod Moving
 pub mod Pigeons
 pub mod Prepared
