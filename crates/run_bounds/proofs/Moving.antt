@@ -24,17 +24,23 @@ module _ (schedule : List ℕ) where
       at others is = ap (slice_index schedule) is ∙ here
 
       sooner : turns % length schedule ≤ i → (others : ℕ) × IsNamed schedule turns worker others
-      sooner less = (i - turns % length schedule, record {
-        within = omega (arith, low, less);
-        named = at (i - turns % length schedule) (before_end (length schedule) (turns / length schedule) i (turns + (i - turns % length schedule)) low (let p = part in omega (arith, p, less)));
-      })
+      sooner less = (
+        i - turns % length schedule,
+        record {
+          within = omega (arith, low, less);
+          named = at (i - turns % length schedule) (before_end (length schedule) (turns / length schedule) i (turns + (i - turns % length schedule)) low (let p = part in omega (arith, p, less)));
+        },
+      )
 
       later : i < turns % length schedule → (others : ℕ) × IsNamed schedule turns worker others
-      later more = (i + length schedule - turns % length schedule, record {
-        within = let a = inside in omega (arith, more, a);
-        named = at (i + length schedule - turns % length schedule) (before_end (length schedule) (turns / length schedule + 1) i (turns + (i + length schedule - turns % length schedule)) low
-            (let p = part in let a = inside in let b : (turns / length schedule + 1) * length schedule ≡ turns / length schedule * length schedule + length schedule = grind arith in omega (arith, p, a, b, more)));
-      })
+      later more = (
+        i + length schedule - turns % length schedule,
+        record {
+          within = let a = inside in omega (arith, more, a);
+          named = at (i + length schedule - turns % length schedule) (before_end (length schedule) (turns / length schedule + 1) i (turns + (i + length schedule - turns % length schedule)) low
+              (let p = part in let a = inside in let b : (turns / length schedule + 1) * length schedule ≡ turns / length schedule * length schedule + length schedule = grind arith in omega (arith, p, a, b, more)));
+        },
+      )
 
   -- the turn of another brings it nearer
   nearer : (turns worker others : ℕ) → IsNamed schedule turns worker (others + 1) → IsNamed schedule (turns + 1) worker others
