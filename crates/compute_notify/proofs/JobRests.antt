@@ -77,12 +77,12 @@ module _ (rows : ℕ) (some : 0 < rows) where
   times_rows (suc a) = let h = times_rows a in let c : suc a * rows ≡ a * rows + rows = grind arith in omega (arith, h, c, some)
 
   -- the places of an exploring
-  few_places : (p s h : ℕ) → p * (rows + 14) + 2 * h + 12 ≤ 40 * rows * (p + s + 2) + 4 * h
-  few_places p s h = let a = times_rows p in let x : p * (rows + 14) ≡ p * rows + 14 * p = grind arith in let y : 40 * rows * (p + s + 2) ≡ 40 * (p * rows) + 40 * (s * rows) + 80 * rows = grind arith in omega (arith, a, x, y, some)
+  few_places : (p s h : ℕ) → p * (rows + 14) + 2 * h + 12 ≤ 24 * rows * (p + s + 2) + 4 * h
+  few_places p s h = let a = times_rows p in let x : p * (rows + 14) ≡ p * rows + 14 * p = grind arith in let y : 24 * rows * (p + s + 2) ≡ 24 * (p * rows) + 24 * (s * rows) + 48 * rows = grind arith in omega (arith, a, x, y, some)
 
   -- the inputs, the words and the ports of a computing
-  few_ports : (p s i words a h : ℕ) → i ≤ p → words ≤ 17 → a ≤ h → 2 * i + 2 * words + s * (rows + 7) + rows + 2 * a + 10 ≤ 40 * rows * (p + s + 2) + 4 * h
-  few_ports p s i words a h low few fewer = let b = times_rows p in let c = times_rows s in let x : s * (rows + 7) ≡ s * rows + 7 * s = grind arith in let y : 40 * rows * (p + s + 2) ≡ 40 * (p * rows) + 40 * (s * rows) + 80 * rows = grind arith in omega (arith, b, c, x, y, low, few, fewer, some)
+  few_ports : (p s i words a h : ℕ) → i ≤ p → words ≤ 17 → a ≤ h → 2 * i + 2 * words + s * (rows + 7) + rows + 2 * a + 10 ≤ 24 * rows * (p + s + 2) + 4 * h
+  few_ports p s i words a h low few fewer = let b = times_rows p in let c = times_rows s in let x : s * (rows + 7) ≡ s * rows + 7 * s = grind arith in let y : 24 * rows * (p + s + 2) ≡ 24 * (p * rows) + 24 * (s * rows) + 48 * rows = grind arith in omega (arith, b, c, x, y, low, few, fewer, some)
 
 module _ (g : TaskGraph) (strikes : List Strike) (lives : ℕ) (e : Setting) (runs : Runs g strikes lives e) (duty : Duty) where
   abbrev k : ℕ

@@ -187,7 +187,7 @@ life_strikes key l p = filter (of_life key l) p
 
 -- a bound on what is left of a job that begins: by the rows of the table, the places and the ports of its task, and the strikes for its life
 abbrev pub few_left : Setting → List Strike → Key → ℕ → ℕ
-few_left e p key l = 40 * e.shape.rows * (e.graph.places key.0 + e.graph.ports key.0 + 2) + 4 * length (life_strikes key l p)
+few_left e p key l = 24 * e.shape.rows * (e.graph.places key.0 + e.graph.ports key.0 + 2) + 4 * length (life_strikes key l p)
 
 -- so little is left of the task of this life of a key, wherever it is turned
 abbrev pub HasFewLeft : Task → Key → ℕ → Type 0

@@ -25,15 +25,15 @@ one_of_sum f k (x ∷ ks) some = let a = sum_by-cons f x ks in let many = bump_i
 module _ (e : Setting) where
   -- what a job costs, but for its strikes
   abbrev base : ℕ → ℕ
-  base k = 40 * e.shape.rows * (e.graph.places k + e.graph.ports k + 2)
+  base k = 24 * e.shape.rows * (e.graph.places k + e.graph.ports k + 2)
 
-  base_all : (ks : List ℕ) → sum_by base ks ≡ 40 * e.shape.rows * (sum_by e.graph.places ks + sum_by e.graph.ports ks + 2 * length ks)
+  base_all : (ks : List ℕ) → sum_by base ks ≡ 24 * e.shape.rows * (sum_by e.graph.places ks + sum_by e.graph.ports ks + 2 * length ks)
   base_all [] = omega arith
   base_all (k ∷ ks) = let h = base_all ks in let a = sum_by-cons base k ks in let p = sum_by-cons e.graph.places k ks in let q = sum_by-cons e.graph.ports k ks in
       rw (p, q) (weigh e.shape.rows (e.graph.places k) (e.graph.ports k) (sum_by e.graph.places ks) (sum_by e.graph.ports ks) (length ks) (sum_by base (k ∷ ks)) (sum_by base ks) a h)
     where
-      weigh : (r p q s t n x y : ℕ) → x ≡ 40 * r * (p + q + 2) + y → y ≡ 40 * r * (s + t + 2 * n) → x ≡ 40 * r * ((p + s) + (q + t) + 2 * suc n)
-      weigh r p q s t n x y a b = let c : 40 * r * ((p + s) + (q + t) + 2 * suc n) ≡ 40 * r * (p + q + 2) + 40 * r * (s + t + 2 * n) = grind arith in omega (arith, a, b, c)
+      weigh : (r p q s t n x y : ℕ) → x ≡ 24 * r * (p + q + 2) + y → y ≡ 24 * r * (s + t + 2 * n) → x ≡ 24 * r * ((p + s) + (q + t) + 2 * suc n)
+      weigh r p q s t n x y a b = let c : 24 * r * ((p + s) + (q + t) + 2 * suc n) ≡ 24 * r * (p + q + 2) + 24 * r * (s + t + 2 * n) = grind arith in omega (arith, a, b, c)
 
   parted : (p : List Strike) (xs : List Lived) → sum_by (job_cost e p) xs ≡ sum_by (λ x. base x.key) xs + 4 * sum_by (struck_for p) xs
   parted p [] = omega arith
@@ -47,18 +47,18 @@ module _ (e : Setting) where
     few_ports : (k : ℕ) → 0 < count (eqb k) e.keys → e.graph.ports k ≤ n + 1
     few_ports k here = let a = one_of_sum e.graph.ports k e.keys here in omega (arith, a, places, ports)
 
-    base_few : (k : ℕ) → 0 < count (eqb k) e.keys → base k ≤ 40 * ((t + 1) * (2 * n + 4))
+    base_few : (k : ℕ) → 0 < count (eqb k) e.keys → base k ≤ 24 * ((t + 1) * (2 * n + 4))
     base_few k here = let a = few_places k here in let b = few_ports k here in
-        let c : 40 * (t + 1) * (e.graph.places k + e.graph.ports k + 2) ≤ 40 * (t + 1) * (2 * n + 4) = mul-le-mul_left (40 * (t + 1)) (omega (arith, a, b)) in
-        let d : 40 * (t + 1) * (2 * n + 4) ≡ 40 * ((t + 1) * (2 * n + 4)) = grind arith in
-        let f : base k ≡ 40 * (t + 1) * (e.graph.places k + e.graph.ports k + 2) = ap (λ r. 40 * r * (e.graph.places k + e.graph.ports k + 2)) rows in omega (arith, c, d, f)
+        let c : 24 * (t + 1) * (e.graph.places k + e.graph.ports k + 2) ≤ 24 * (t + 1) * (2 * n + 4) = mul-le-mul_left (24 * (t + 1)) (omega (arith, a, b)) in
+        let d : 24 * (t + 1) * (2 * n + 4) ≡ 24 * ((t + 1) * (2 * n + 4)) = grind arith in
+        let f : base k ≡ 24 * (t + 1) * (e.graph.places k + e.graph.ports k + 2) = ap (λ r. 24 * r * (e.graph.places k + e.graph.ports k + 2)) rows in omega (arith, c, d, f)
 
-    first_few : sum_by base e.keys ≤ 80 * ((t + 1) * (n + t + 2))
+    first_few : sum_by base e.keys ≤ 48 * ((t + 1) * (n + t + 2))
     first_few =
         let a = base_all e.keys in
-        let b : 40 * (t + 1) * (sum_by e.graph.places e.keys + sum_by e.graph.ports e.keys + 2 * length e.keys) ≤ 40 * (t + 1) * (2 * (n + t + 2)) = mul-le-mul_left (40 * (t + 1)) (omega (arith, places, ports, many)) in
-        let c : 40 * (t + 1) * (2 * (n + t + 2)) ≡ 80 * ((t + 1) * (n + t + 2)) = grind arith in
-        let d : 40 * e.shape.rows * (sum_by e.graph.places e.keys + sum_by e.graph.ports e.keys + 2 * length e.keys) ≡ 40 * (t + 1) * (sum_by e.graph.places e.keys + sum_by e.graph.ports e.keys + 2 * length e.keys) = ap (λ r. 40 * r * (sum_by e.graph.places e.keys + sum_by e.graph.ports e.keys + 2 * length e.keys)) rows in omega (arith, a, b, c, d)
+        let b : 24 * (t + 1) * (sum_by e.graph.places e.keys + sum_by e.graph.ports e.keys + 2 * length e.keys) ≤ 24 * (t + 1) * (2 * (n + t + 2)) = mul-le-mul_left (24 * (t + 1)) (omega (arith, places, ports, many)) in
+        let c : 24 * (t + 1) * (2 * (n + t + 2)) ≡ 48 * ((t + 1) * (n + t + 2)) = grind arith in
+        let d : 24 * e.shape.rows * (sum_by e.graph.places e.keys + sum_by e.graph.ports e.keys + 2 * length e.keys) ≡ 24 * (t + 1) * (sum_by e.graph.places e.keys + sum_by e.graph.ports e.keys + 2 * length e.keys) = ap (λ r. 24 * r * (sum_by e.graph.places e.keys + sum_by e.graph.ports e.keys + 2 * length e.keys)) rows in omega (arith, a, b, c, d)
 
     -- a replacement that is begun
     pub suspect_few : (k : ℕ) → Contains e.keys k → e.graph.notify_words k ≤ 17 → suspect_rest e k + 1 ≤ 20 * (t + 1) * (n + 4)
@@ -79,9 +79,10 @@ module _ (e : Setting) where
     pub jobs_fewer : (p : List Strike) (rs : List Record) (xs : List Lived) → ((a k l : ℕ) → count (is_lived a k l) xs ≤ 1) → ((a k l : ℕ) → 0 < count (is_lived a k l) xs → (a < 2) × IsComeTo e.keys rs k l)
         → sum_by (job_cost e p) xs ≤ 160 * ((t + 1) * (n + t + 2)) + count is_any_replaced rs * (80 * ((t + 1) * (2 * n + 4))) + 8 * length p
     jobs_fewer p rs xs once come =
-        let a = lived_cost 2 (40 * ((t + 1) * (2 * n + 4))) base e.keys rs base_few xs once come in let b = strikes_few 2 p xs once (λ a k l some. (come a k l some).0) in
+        let a = lived_cost 2 (24 * ((t + 1) * (2 * n + 4))) base e.keys rs base_few xs once come in let b = strikes_few 2 p xs once (λ a k l some. (come a k l some).0) in
         let c = parted p xs in let d = first_few in
-        let f : 2 * (40 * ((t + 1) * (2 * n + 4))) * count is_any_replaced rs ≡ count is_any_replaced rs * (80 * ((t + 1) * (2 * n + 4))) = grind arith in omega (arith, a, b, c, d, f)
+        let f : 2 * (24 * ((t + 1) * (2 * n + 4))) * count is_any_replaced rs ≡ count is_any_replaced rs * (48 * ((t + 1) * (2 * n + 4))) = grind arith in
+        let h : count is_any_replaced rs * (48 * ((t + 1) * (2 * n + 4))) ≤ count is_any_replaced rs * (80 * ((t + 1) * (2 * n + 4))) = mul-le-mul_left (count is_any_replaced rs) (omega arith) in omega (arith, a, b, c, d, f, h)
 
     -- no life costs more than the first lives of all tasks
     pub jobs_few : (p : List Strike) (rs : List Record) (xs : List Lived) → ((a k l : ℕ) → count (is_lived a k l) xs ≤ 1) → ((a k l : ℕ) → 0 < count (is_lived a k l) xs → (a < 2) × IsComeTo e.keys rs k l)
