@@ -12,6 +12,7 @@ use Rattle.graph_model.specs.declared.plan.Strike.{Strike}
 use Rattle.core_state.specs.Counts.{count}
 use Rattle.core_state.specs.Tests.{is_any_replaced}
 use Rattle.run_bounds.specs.Budgets.{all_places, enough_turns}
+use Rattle.run_bounds.specs.Moving.{IsListed}
 use Rattle.run_bounds.specs.Storm.{enough_turns_of}
 use Rattle.run_bounds.proofs.Enough.{enough_planned}
 use Rattle.worker_pool.specs.Calling.{all_calls, calls_for}
@@ -62,23 +63,29 @@ module _ (turns : ℕ) (schedule : List ℕ) (g : Graph) (plan : List Strike) wh
   given_fewer (Some many) is enough short = subst (λ n. n < enough_turns g) is (below turns (enough_turns g) short)
 
   module _ (given : Option ℕ) (is : turns ≡ turn_count given (length schedule) (length plan) (length g.keys) (all_places g)) (enough : given ≡ None → enough_turns g ≤ turns) (workers : ℕ) where
-    over_due : (records : List Record) (reason : Why) → (workers ≡ 1 → enough_turns_of g (length schedule) (length plan) (count is_any_replaced records) ≤ turns → IsNotShort reason)
-        → (workers ≡ 1 → StrikesNoBlock plan → HasOneVersion g → enough_turns_of g (length schedule) (length plan) (length plan) ≤ turns → IsNotShort reason) → (workers ≡ 1 → plan ≡ [] → enough_turns g ≤ turns → IsNotShort reason)
+    over_due : (records : List Record) (reason : Why) → (IsListed schedule 0 → enough_turns_of g (length schedule) (length plan) (count is_any_replaced records) ≤ turns → IsNotShort reason)
+        → (IsListed schedule 0 → StrikesNoBlock plan → HasOneVersion g → enough_turns_of g (length schedule) (length plan) (length plan) ≤ turns → IsNotShort reason)
+        → (IsListed schedule 0 → plan ≡ [] → enough_turns_of g (length schedule) 0 0 ≤ turns → IsNotShort reason) → (workers ≡ 1 → plan ≡ [] → enough_turns g ≤ turns → IsNotShort reason)
         → IsDue (MayBeOver workers schedule given) g plan records reason
-    over_due records why.OutOfMemory paid planned calm = tt
-    over_due records (why.LivesSpent k l c) paid planned calm = tt
-    over_due records (why.ScheduleShort pending) paid planned calm = λ one. record {
-      few = subst (λ n. n < enough_turns_of g (length schedule) (length plan) (count is_any_replaced records)) is (below turns (enough_turns_of g (length schedule) (length plan) (count is_any_replaced records)) (paid one));
-      planned = λ words single. fewer given is (planned one words single);
-      calm = λ none. given_fewer given is enough (calm one none);
+    over_due records why.OutOfMemory paid planned empty calm = tt
+    over_due records (why.LivesSpent k l c) paid planned empty calm = tt
+    over_due records (why.ScheduleShort pending) paid planned empty calm = record {
+      scant = λ first. record {
+        few = subst (λ n. n < enough_turns_of g (length schedule) (length plan) (count is_any_replaced records)) is (below turns (enough_turns_of g (length schedule) (length plan) (count is_any_replaced records)) (paid first));
+        planned = λ words single. fewer given is (planned first words single);
+        empty = λ none. let no_strike = ap length none in subst (λ n. AreFewer given (enough_turns_of g (length schedule) n n)) no_strike
+            (fewer given is (subst (λ n. enough_turns_of g (length schedule) n n ≤ turns → ⊥) (sym no_strike) (empty first none)));
+      };
+      calm = λ one none. given_fewer given is enough (calm one none);
     }
 
     -- a run by turns is cut short only where they may be over
-    pub turns_due : {T E : Type 0} (why_of : E → Why) (records_of : E → List Record) (made : Result T E) → (workers ≡ 1 → IfErr made (λ r. enough_turns_of g (length schedule) (length plan) (count is_any_replaced (records_of r)) ≤ turns → IsNotShort (why_of r)))
-        → (workers ≡ 1 → StrikesNoBlock plan → HasOneVersion g → enough_turns_of g (length schedule) (length plan) (length plan) ≤ turns → IfErr made (λ r. IsNotShort (why_of r))) → (workers ≡ 1 → plan ≡ [] → enough_turns g ≤ turns → IfErr made (λ r. IsNotShort (why_of r)))
+    pub turns_due : {T E : Type 0} (why_of : E → Why) (records_of : E → List Record) (made : Result T E) → (IsListed schedule 0 → IfErr made (λ r. enough_turns_of g (length schedule) (length plan) (count is_any_replaced (records_of r)) ≤ turns → IsNotShort (why_of r)))
+        → (IsListed schedule 0 → StrikesNoBlock plan → HasOneVersion g → enough_turns_of g (length schedule) (length plan) (length plan) ≤ turns → IfErr made (λ r. IsNotShort (why_of r)))
+        → (IsListed schedule 0 → plan ≡ [] → enough_turns_of g (length schedule) 0 0 ≤ turns → IfErr made (λ r. IsNotShort (why_of r))) → (workers ≡ 1 → plan ≡ [] → enough_turns g ≤ turns → IfErr made (λ r. IsNotShort (why_of r)))
         → IfErr made (λ r. IsDue (MayBeOver workers schedule given) g plan (records_of r) (why_of r))
-    turns_due why_of records_of (Ok value) paid planned calm = tt
-    turns_due why_of records_of (Err r) paid planned calm = over_due (records_of r) (why_of r) paid planned calm
+    turns_due why_of records_of (Ok value) paid planned empty calm = tt
+    turns_due why_of records_of (Err r) paid planned empty calm = over_due (records_of r) (why_of r) paid planned empty calm
 
 -- ---- the records that are kept: all, but none where room was refused
 pub kept_tells : (g : Graph) (outcome : Outcome) (plan : List Strike) (lives : ℕ) (reason : Why) (records kept : List Record) → (NoneMissing reason → kept ≡ records)

@@ -33,8 +33,8 @@ Shows (replay workers lives detail schedule turns) input made = IsMisuse input m
 Shows (paths workers lives) input made = IsMisuse input made
 Shows (drill number workers) input made = IsMisuse input made
 
--- What a command makes of its words and the source. `run` and `paths` have a thread for each worker, and so has `drill`, which reads nothing; `replay` has turns, which may be over, but with one worker
--- only where they are scant.
+-- What a command makes of its words and the source. `run` and `paths` have a thread for each worker, and so has `drill`, which reads nothing; `replay` has turns, which may be over, but only where
+-- they are scant.
 abbrev pub Makes : Asked → Input → List Record → List (List Note) → Result (List ℕ) Ending → Type 0
 Makes (run workers lives detail) input records news made = Runs input IsNeverOver lives detail records news made
 Makes (replay workers lives detail schedule turns) input records news made = Runs input (MayBeOver workers schedule turns) lives detail records news made

@@ -6,6 +6,7 @@ use Rattle.graph_model.specs.declared.record.Record.{Record}
 use Rattle.core_state.specs.Counts.{count}
 use Rattle.core_state.specs.Tests.{is_any_replaced}
 use Rattle.run_bounds.specs.Budgets.{all_places, enough_turns}
+use Rattle.run_bounds.specs.Moving.{IsListed}
 use Rattle.run_bounds.specs.Storm.{enough_turns_of}
 use Rattle.worker_pool.specs.Completing.{HasOneVersion, StrikesNoBlock}
 use Rattle.command_words.specs.Meaning.{Asked, run, replay, paths, drill, check, print}
@@ -77,16 +78,17 @@ abbrev pub AreGivenFewer : Option ℕ → ℕ → Type 0
 AreGivenFewer None most = ⊥
 AreGivenFewer (Some turns) most = turns < most
 
--- The turns are fewer than one worker needs: for a schedule and a plan of such lengths and as many lives as were replaced; where each of these has a strike of its own, for so many strikes; and where no
+-- The turns are fewer than any workers need: for a schedule and a plan of such lengths and as many lives as were replaced; where each of these has a strike of its own, for so many strikes; and where no
 -- strike is planned, for none.
 pub record AreScant (schedule : ℕ) (turns : Option ℕ) (g : Graph) (strikes : List Strike) (records : List Record) : Type 0 where
   pub few : turn_count turns schedule (length strikes) (length g.keys) (all_places g) < enough_turns_of g schedule (length strikes) (count is_any_replaced records)
   pub planned : StrikesNoBlock strikes → HasOneVersion g → AreFewer turns (enough_turns_of g schedule (length strikes) (length strikes))
-  pub calm : strikes ≡ [] → AreGivenFewer turns (enough_turns g)
+  pub empty : strikes ≡ [] → AreFewer turns (enough_turns_of g schedule 0 0)
 
--- the turns of so many workers may be over; of one worker only where they are scant
-abbrev pub MayBeOver : ℕ → List ℕ → Option ℕ → Graph → List Strike → List Record → Type 0
-MayBeOver workers schedule turns g strikes records = workers ≡ 1 → AreScant (length schedule) turns g strikes records
+-- The turns of workers whose schedule names worker 0 may be over only where they are scant; those of one worker without a strike only where they are fewer than it needs.
+pub record MayBeOver (workers : ℕ) (schedule : List ℕ) (turns : Option ℕ) (g : Graph) (strikes : List Strike) (records : List Record) : Type 0 where
+  pub scant : IsListed schedule 0 → AreScant (length schedule) turns g strikes records
+  pub calm : workers ≡ 1 → strikes ≡ [] → AreGivenFewer turns (enough_turns g)
 
 -- there are no turns, so they are never over
 abbrev pub IsNeverOver : Graph → List Strike → List Record → Type 0

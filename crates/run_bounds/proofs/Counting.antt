@@ -19,10 +19,19 @@ count_weaker p q all (x ∷ xs) = by (p x) refl (count_weaker p q all xs)
     by true is h = let a = ap hit (all x is) in let b = bump_is (q x) (count q xs) in omega (arith, h, a, b)
     by false is h = let b = bump_is (q x) (count q xs) in omega (arith, h, b)
 
--- none that passes
-pub count_none : {X : Type 0} (p : X → Bool) → ((x : X) → p x ≡ false) → (xs : List X) → count p xs ≡ 0
-count_none p all [] = refl
-count_none p all (x ∷ xs) = let a = count_none p all xs in let b = bump_is (p x) (count p xs) in let c = ap hit (all x) in omega (arith, a, b, c)
+-- no element, nothing counted
+pub none_counted : {X : Type 0} (p : X → Bool) (xs : List X) → length xs ≡ 0 → count p xs ≡ 0
+none_counted p [] none = refl
+none_counted p (x ∷ xs) none = absurd (omega (arith, none))
+
+-- where none passes any of these tests, none passes another that asks for one of them
+pub none_of_each : {I X : Type 0} (any : X → Bool) (test : I → X → Bool) → ((x : X) → any x ≡ true → (i : I) × (test i x ≡ true)) → (xs : List X) → ((i : I) → count (test i) xs ≡ 0) → count any xs ≡ 0
+none_of_each any test one [] none = refl
+none_of_each any test one (x ∷ xs) none = by (any x) refl (none_of_each any test one xs (λ i. let a = none i in let b = bump_is (test i x) (count (test i) xs) in omega (arith, a, b)))
+  where
+    by : (b : Bool) → any x ≡ b → count any xs ≡ 0 → bump b (count any xs) ≡ 0
+    by true is rest = let it = one x is in let a = none it.0 in let b = bump_is (test it.0 x) (count (test it.0) xs) in let c = ap hit it.1 in absurd (omega (arith, a, b, c))
+    by false is rest = rest
 
 -- a number that a list contains is counted in it
 pub counted_in : (k : ℕ) (xs : List ℕ) → Contains xs k → 0 < count (eqb k) xs

@@ -1,4 +1,4 @@
--- Turns that are counted by a schedule, a plan, the tasks and their places are enough, and so are those of one worker with room for more.
+-- Turns that are counted by a schedule, a plan, the tasks and their places are enough.
 use Rattle.std.proofs.Common.{◌≡◌, ℕ, ◌+◌, ◌*◌, ◌-◌, ◌^◌, ◌<◌, ◌≤◌, min, max, length, arith, ap}
 use Rattle.std.proofs.Math.Nat.{le-max_left, le-min}
 use Rattle.graph_model.specs.Graph.{Graph as TaskGraph}
@@ -22,10 +22,6 @@ counted : (t p : ℕ) → t ≤ 1048576 → p ≤ 41943040 → 200 * (t + 1) * (
 counted t p tasks places =
     let a : (t + 1) * (p + t + 2) ≤ (t + 1) * 42991618 = Rattle.std.proofs.Math.Nat.mul-le-mul_left (t + 1) (omega (arith, tasks, places)) in
     let b : 200 * (t + 1) * (p + t + 2) ≡ 200 * ((t + 1) * (p + t + 2)) = omega arith in omega (arith, a, b, tasks)
-
--- with a billion turns more
-pub enough_for_one : (g : TaskGraph) → enough_turns g ≤ 200 * (length g.keys + 1) * (all_places g + length g.keys + 2) + 1000000000
-enough_for_one g = omega arith
 
 -- as many as any schedule and plan get, and a counter holds
 pub enough_ample : (g : TaskGraph) (schedule strikes : ℕ) → 0 < schedule → length g.keys ≤ 1048576 → all_places g ≤ 41943040

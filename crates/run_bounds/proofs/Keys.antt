@@ -28,7 +28,7 @@ ascending_once (x ∷ xs) up m = let a = bump_is (eqb m x) (count (eqb m) xs) in
     (λ other. let b = ascending_once xs (λ i j d less inside. up (suc i) (suc j) d (omega (arith, less)) (omega (arith, inside))) m in let c = ap hit other.0 in omega (arith, a, b, c)) (eqb_tells m x)
 
 -- what holds of each number of a list
-pub each_in : (P : ℕ → Type 0) (xs : List ℕ) → ((k : ℕ) → Contains xs k → P k) → AllByRecursion P xs
+each_in : (P : ℕ → Type 0) (xs : List ℕ) → ((k : ℕ) → Contains xs k → P k) → AllByRecursion P xs
 each_in P xs all = recursion_from_All P xs (λ i d low. all (slice_index_or xs i d) (i, low, get_or_default xs i (slice_index_or xs i d) d low))
 
 same_sums : (f h : ℕ → ℕ) (xs : List ℕ) → AllByRecursion (λ k. f k ≡ h k) xs → sum_by f xs ≡ sum_by h xs

@@ -8,11 +8,10 @@ pub mod JobEvents
 pub mod Jobs
 pub mod Keys
 pub mod Light
-pub mod Lost
+pub mod Lists
 pub mod Moving
 pub mod Pigeons
-pub mod Prepared
-pub mod StepCosts
+pub mod Shared
 pub mod Storm
 pub mod Tables
 pub mod Unstruck

@@ -26,7 +26,7 @@ use Rattle.compute_notify.specs.declared.task.Task.{Task}
 use Rattle.run_bounds.specs.Light.{item_light, items_light, lines_weight, phase_light, piece_weight, suspect_light, task_light}
 
 -- a suspect weighs no more than its replacement
-light_low : (e : Setting) (k : ℕ) (c : Cause) → suspect_light c ≤ suspect_rest e k
+pub light_low : (e : Setting) (k : ℕ) (c : Cause) → suspect_light c ≤ suspect_rest e k
 light_low e k (cause.Block b v f) = omega arith
 light_low e k cause.Descriptor = omega arith
 light_low e k cause.Notify = omega arith
@@ -47,7 +47,7 @@ module _ (e : Setting) where
   computing_is duty computing.Writing b = omega arith
 
   module _ (p : List Strike) where
-    pub item_is : (h : Option BlockCells) (x : Item) (b : List Line) → item_rest e p h x + lines_weight e b ≡ item_light e p h x + lines_weight e (item_lines e.graph x b)
+    item_is : (h : Option BlockCells) (x : Item) (b : List Line) → item_rest e p h x + lines_weight e b ≡ item_light e p h x + lines_weight e (item_lines e.graph x b)
     item_is h item.Credit b = omega arith
     item_is h (item.Explore x) b = omega arith
     item_is h (item.Compute c) b = let a = computing_is c.duty c.phase b in omega (arith, a)
@@ -73,7 +73,7 @@ module _ (e : Setting) where
   finished_weighs g p made (line.Reenter k l qs) is = refl
   finished_weighs g p made (line.Owe k i l) is = refl
 
-  pub settled_weighs : (g : Graph) (p : Plan) (made : List ℕ) (b : List Line) → lines_weight e (settled g p made b) ≡ lines_weight e b
+  settled_weighs : (g : Graph) (p : Plan) (made : List ℕ) (b : List Line) → lines_weight e (settled g p made b) ≡ lines_weight e b
   settled_weighs g p made [] = refl
   settled_weighs g p made (credit ∷ b) = refl
   settled_weighs g p made (of x ∷ b) = by (settled_weighs g p made b) (is_finished g p made x) refl

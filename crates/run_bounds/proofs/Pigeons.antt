@@ -13,7 +13,7 @@ sums_none : {Y : Type 0} (f : Y → ℕ) (ys : List Y) → ((y : Y) → f y ≡ 
 sums_none f [] z = refl
 sums_none f (y ∷ ys) z = let h = sums_none f ys z in let a = sum_by-cons f y ys in let b = z y in omega (arith, h, a, b)
 
-pub sums_below : {Y : Type 0} (f g : Y → ℕ) (ys : List Y) → ((y : Y) → f y ≤ g y) → sum_by f ys ≤ sum_by g ys
+sums_below : {Y : Type 0} (f g : Y → ℕ) (ys : List Y) → ((y : Y) → f y ≤ g y) → sum_by f ys ≤ sum_by g ys
 sums_below f g [] z = omega arith
 sums_below f g (y ∷ ys) z = let h = sums_below f g ys z in let a = sum_by-cons f y ys in let b = sum_by-cons g y ys in let c = z y in omega (arith, h, a, b, c)
 

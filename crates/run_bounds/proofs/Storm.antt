@@ -1,25 +1,10 @@
 -- Why turns are enough where lives are replaced.
-pub mod Beginning
-pub mod Charging
 pub mod Costs
-pub mod Electing
-pub mod Ending
-pub mod Enough
-pub mod Excusing
 pub mod Growing
-pub mod Keeping
-pub mod Lone
-pub mod Marking
 pub mod Originating
-pub mod Posting
 pub mod Preparing
-pub mod Reclosing
-pub mod Renewing
-pub mod Serving
 pub mod Several
 pub mod Slots
 pub mod Sorts
 pub mod Strikes
-pub mod Tables
-pub mod Turning
 pub mod Words

@@ -3,7 +3,7 @@ use Rattle.std.proofs.Common.{◌≡◌, ℕ, ◌+◌, ◌≤◌, Bool, true, fa
 use Rattle.graph_model.specs.declared.record.Cause.TheVariants as cause
 use Rattle.core_state.specs.Effects.{blamed_items, claim_of, loaded_items, moved_items, read_items, registered_of, skipped_items, told_of}
 use Rattle.core_state.specs.Events.{Event}
-use Rattle.core_state.specs.Events.Event.{claim, look, load_descriptor, load_notify, load_recovery, load_pending, load_stop, register, spend, close, elect, renew_notify, renew_descriptor, finish, strike_descriptor, strike_notify, post, take, buy, drop_credit, take_turn, give_read, give_written, give_struck, halt}
+use Rattle.core_state.specs.Events.Event.{claim, look, load_descriptor, load_notify, load_recovery, register, spend, close, elect, renew_notify, renew_descriptor, finish, post, take, drop_credit, give_read, give_written}
 use Rattle.core_state.specs.Graph.{Graph, Plan, Setting}
 use Rattle.core_state.specs.Lines.{Line, change_first, claimed_lines, credit, dropped, flat, looked_lines, of, onto, registered_lines, told_lines}
 use Rattle.core_state.specs.Outcome.{lines_left}
@@ -31,7 +31,7 @@ module _ (e : Setting) where
   abbrev Keeps : (List Piece → List Piece) → Type 0
   Keeps f = (x : Piece) → piece_weight e x ≤ pieces_weight e (f (x ∷ []))
 
-  first_more : (f : List Piece → List Piece) → Keeps f → (ls : List Line) → lines_weight e ls ≤ lines_weight e (change_first f ls)
+  pub first_more : (f : List Piece → List Piece) → Keeps f → (ls : List Line) → lines_weight e ls ≤ lines_weight e (change_first f ls)
   first_more f keeps [] = omega arith
   first_more f keeps (credit ∷ b) = let a = onto_weighs (f []) (credit ∷ b) in omega (arith, a)
   first_more f keeps (of x ∷ b) = let a = onto_weighs (f (x ∷ [])) b in let c = keeps x in omega (arith, a, c)
@@ -41,41 +41,19 @@ module _ (e : Setting) where
   either_more n true xs ys a c = a
   either_more n false xs ys a c = c
 
-  moved_keeps : (g : Graph) → Keeps (moved_items g)
-  moved_keeps g (line.Explore k l j) = omega arith
-  moved_keeps g (line.Compute k l loaded read made) = omega arith
-  moved_keeps g (line.Close k l w) = omega arith
-  moved_keeps g (line.Notify k l w qs) = omega arith
+  pub moved_keeps : (g : Graph) → Keeps (moved_items g)
   moved_keeps g (line.Suspect k l c waits) = omega arith
-  moved_keeps g (line.Renew k l d) = omega arith
-  moved_keeps g (line.Reenter k l qs) = omega arith
-  moved_keeps g (line.Owe k i l) = omega arith
+  moved_keeps g x = omega arith
 
   skipped_keeps : (g : Graph) (rows r : ℕ) (known : List Known) → Keeps (skipped_items g rows r known)
-  skipped_keeps g rows r known (line.Explore k l j) = omega arith
-  skipped_keeps g rows r known (line.Compute k l loaded read made) = omega arith
-  skipped_keeps g rows r known (line.Close k l w) = omega arith
-  skipped_keeps g rows r known (line.Notify k l w qs) = omega arith
   skipped_keeps g rows r known (line.Suspect k l c waits) = omega arith
-  skipped_keeps g rows r known (line.Renew k l d) = omega arith
-  skipped_keeps g rows r known (line.Reenter k l qs) = omega arith
-  skipped_keeps g rows r known (line.Owe k i l) = omega arith
+  skipped_keeps g rows r known x = omega arith
 
   loaded_keeps : (g : Graph) (p : Plan) (made : List ℕ) (k n : ℕ) → Keeps (loaded_items g p made k n)
-  loaded_keeps g p made k n (line.Explore a l j) = omega arith
-  loaded_keeps g p made k n (line.Compute a l loaded read m) = omega arith
-  loaded_keeps g p made k n (line.Close a l w) = omega arith
-  loaded_keeps g p made k n (line.Notify a l w qs) = omega arith
   loaded_keeps g p made k n (line.Suspect a l c waits) = omega arith
-  loaded_keeps g p made k n (line.Renew a l d) = omega arith
-  loaded_keeps g p made k n (line.Reenter a l qs) = omega arith
-  loaded_keeps g p made k n (line.Owe a i l) = omega arith
+  loaded_keeps g p made k n x = omega arith
 
   blamed_keeps : (g : Graph) (k n : ℕ) → Keeps (blamed_items g k n)
-  blamed_keeps g k n (line.Explore a l j) = omega arith
-  blamed_keeps g k n (line.Compute a l loaded read m) = omega arith
-  blamed_keeps g k n (line.Close a l w) = omega arith
-  blamed_keeps g k n (line.Notify a l w qs) = omega arith
   blamed_keeps g k n (line.Suspect a l (cause.Block b v f) waits) =
       either_more (piece_weight e (line.Suspect a l (cause.Block b v f) waits)) (eqb k (g.writer b v) && cond (eqb k a) false true)
       (cond (eqb (mark_of n) 1) (line.Suspect k (life_of n) cause.Notify false ∷ line.Suspect a l (cause.Block b v f) waits ∷ []) (cond (eqb (closed_bit n) 1) (line.Suspect k (life_of n) (cause.Block b v f) true ∷ line.Suspect a l (cause.Block b v f) waits ∷ []) (line.Suspect a l (cause.Block b v f) waits ∷ [])))
@@ -85,21 +63,11 @@ module _ (e : Setting) where
       (omega arith)
       (either_more (piece_weight e (line.Suspect a l (cause.Block b v f) waits)) (eqb (closed_bit n) 1) (line.Suspect k (life_of n) (cause.Block b v f) true ∷ line.Suspect a l (cause.Block b v f) waits ∷ []) (line.Suspect a l (cause.Block b v f) waits ∷ []) (omega arith) (omega arith)))
       (omega arith)
-  blamed_keeps g k n (line.Suspect a l cause.Descriptor waits) = omega arith
-  blamed_keeps g k n (line.Suspect a l cause.Notify waits) = omega arith
-  blamed_keeps g k n (line.Renew a l d) = omega arith
-  blamed_keeps g k n (line.Reenter a l qs) = omega arith
-  blamed_keeps g k n (line.Owe a i l) = omega arith
+  blamed_keeps g k n x = omega arith
 
   read_keeps : (g : Graph) (b : ℕ) (was : BlockCells) → Keeps (read_items g b was)
-  read_keeps g b was (line.Explore a l j) = omega arith
-  read_keeps g b was (line.Compute a l loaded read m) = omega arith
-  read_keeps g b was (line.Close a l w) = omega arith
-  read_keeps g b was (line.Notify a l w qs) = omega arith
-  read_keeps g b was (line.Suspect a l c waits) = omega arith
-  read_keeps g b was (line.Renew a l d) = omega arith
-  read_keeps g b was (line.Reenter a l qs) = omega arith
-  read_keeps g b was (line.Owe a i l) = omega arith
+  read_keeps g b was (line.Suspect k l c waits) = omega arith
+  read_keeps g b was x = omega arith
 
   -- a credit weighs nothing
   dropped_weighs : (starts : Bool) (ls : List Line) → lines_weight e (dropped starts ls) ≡ lines_weight e ls
@@ -138,8 +106,6 @@ module _ (e : Setting) where
   serving_more v u w n falls (load_descriptor r k) is = first_more (loaded_items e.graph e.plan u.strikes k n) (loaded_keeps e.graph e.plan u.strikes k n) (flat u.stacks)
   serving_more v u w n falls (load_notify r k m) is = first_more (blamed_items e.graph k n) (blamed_keeps e.graph k n) (flat u.stacks)
   serving_more v u w n falls (load_recovery r k) is = absurd is
-  serving_more v u w n falls load_pending is = omega arith
-  serving_more v u w n falls load_stop is = omega arith
   serving_more v u w n falls (register r k q) is = registered_more k (registered_of n) (flat u.stacks)
   serving_more v u w n falls (spend r k j) is = told_more k (told_of (e.graph.places k) j n) (flat u.stacks)
   serving_more v u w n falls (close r k l m seen) is = absurd is
@@ -147,15 +113,10 @@ module _ (e : Setting) where
   serving_more v u w n falls (renew_notify r k l d) is = absurd is
   serving_more v u w n falls (renew_descriptor r k l) is = absurd is
   serving_more v u w n falls (finish r k l) is = absurd is
-  serving_more v u w n falls (strike_descriptor r k l) is = omega arith
-  serving_more v u w n falls (strike_notify r k l m) is = omega arith
   serving_more v u w n falls (post r i k l) is = absurd is
   serving_more v u w n falls (take r i k) is = absurd is
-  serving_more v u w n falls buy is = omega arith
   serving_more v u w n falls drop_credit is = let a = dropped_weighs true (flat u.stacks) in omega (arith, a)
-  serving_more v u w n falls (take_turn b was) is = omega arith
   serving_more v u w n falls (give_read b was) is = first_more (read_items e.graph b was) (read_keeps e.graph b was) (flat u.stacks)
   serving_more v u w n falls (give_written k l b was now) is = let top : flat u.stacks ≡ of (line.Compute k l is.0 is.1 is.2) ∷ is.3 = is.4 in
       subst (λ ls. lines_weight e ls ≤ lines_weight e (change_first (λ xs. line.Close k l 0 ∷ Rattle.core_state.specs.Views.without_first xs) ls)) (sym top) (omega arith)
-  serving_more v u w n falls (give_struck k l b was now) is = omega arith
-  serving_more v u w n falls halt is = omega arith
+  serving_more v u w n falls x is = omega arith

@@ -4,4 +4,5 @@ pub mod Doing
 pub mod Storm
 pub mod Struck
 pub mod Moving
+pub mod Shared
 pub mod Light

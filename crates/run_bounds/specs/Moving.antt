@@ -11,3 +11,7 @@ pub record IsDue (schedule : List ℕ) (turns moves worker vain : ℕ) : Type 0 
   pub others : ℕ
   pub named : IsNamed schedule turns worker others
   pub in_time : turns + others + vain * length schedule + 1 ≤ 3 * length schedule * (moves + 1)
+
+-- the schedule names the worker
+abbrev pub IsListed : List ℕ → ℕ → Type 0
+IsListed schedule worker = (i : ℕ) × (i < length schedule) × (slice_index schedule i ≡ worker)

@@ -1,2 +1,2 @@
-//! Why a run of one worker with an empty plan never ends for want of turns: definitions and lemmas alone.
+//! Why a run never ends for want of turns: definitions and lemmas alone.
 #![tactic(auto)]

@@ -15,7 +15,7 @@ use Rattle.compute_notify.specs.Tasks.{AllOver, FitsAll, FromCredit, Holds, IsNe
 use Rattle.compute_notify.specs.declared.item.Item.{Item}
 use Rattle.compute_notify.specs.declared.item.Item.TheVariants as item
 use Rattle.compute_notify.specs.declared.task.Task.{Task}
-use Rattle.worker_pool.proofs.Paying.Hints.{few_hints}
+use Rattle.worker_pool.proofs.Sharing.Hints.{few_hints}
 
 -- the last item that is not over, if there is one
 module _ (g : Graph) (p : List Strike) where

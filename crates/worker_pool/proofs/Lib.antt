@@ -10,10 +10,10 @@ pub mod Idling
 pub mod Landing
 pub mod NoStrike
 pub mod OwnStrikes
-pub mod Paying
 pub mod Places
 pub mod Pooling
 pub mod Settings
+pub mod Sharing
 pub mod Sums
 pub mod Threading
 pub mod Turns

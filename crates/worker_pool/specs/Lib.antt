@@ -3,7 +3,7 @@ pub mod Closing
 pub mod Completing
 pub mod Ends
 pub mod Joining
-pub mod Paying
 pub mod Pooling
+pub mod Sharing
 pub mod Threads
 pub mod Working

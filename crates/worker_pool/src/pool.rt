@@ -6,17 +6,18 @@ ghost use Rattle.core_state.specs.Graph.{Setting};
 ghost use Rattle.core_state.specs.declared.views.View.{View};
 ghost use Rattle.core_state.specs.Rooted.{root_key};
 ghost use Rattle.core_state.specs.Sure.{IsSure};
-ghost use Rattle.core_state.specs.Counts.{count};
+ghost use Rattle.core_state.specs.Counts.{noted, total_of};
 ghost use Rattle.core_state.specs.Tests.{is_any_replaced};
-ghost use Rattle.core_steps.specs.Table.{view_at, view_in};
+ghost use Rattle.core_steps.specs.Table.{view_in};
 ghost use Rattle.graph_model.specs.Graph.{Graph};
 ghost use Rattle.graph_model.specs.Notes.{Note};
 ghost use Rattle.graph_model.specs.declared.plan.Strike.{Strike};
+ghost use Rattle.run_bounds.specs.Moving.{IsListed};
 ghost use Rattle.run_bounds.specs.Storm.{IsStormRun};
 ghost use Rattle.worker_pool.specs.Calling.{AreAlike, SameKernels};
-ghost use Rattle.worker_pool.specs.Paying.{BeginsAlone, IsPaid, PaysTurn, TakesOwn};
 ghost use Rattle.worker_pool.specs.Joining.{HaveEnded};
 ghost use Rattle.worker_pool.specs.Pooling.{AreNew, IsRun, KernelsCalled, KernelsMake, OthersStay, StopTells, WorkersHold};
+ghost use Rattle.worker_pool.specs.Sharing.{Begins, IsPaid, MakesTurn, TakesHint, all_hints};
 ghost use Rattle.worker_pool.specs.Working.{SpentShown, is_idle};
 
 use crate::worker::{Spent, Terms, Worker};
@@ -49,7 +50,7 @@ fn hint_for(workers: &mut Vec<Worker>, worker: usize) -> Option<u32>
     ensures works { map (λ w. w.work) workers.new.items ≡ map (λ w. w.work) workers.old.items }
     ensures holds { (g : Graph) (e : Setting) (vs : List View) → WorkersHold g e vs workers.old.items → WorkersHold g e vs workers.new.items }
     ensures row { (g : Graph) (e : Setting) (vs : List View) → WorkersHold g e vs workers.old.items → IfSome result (λ row. row < e.shape.rows) }
-    ensures own { (w : Worker) → length workers.old.items ≡ 1 → slice_get workers.old.items 0 ≡ Some w → TakesOwn result w workers.new.items }
+    ensures taken { TakesHint result (all_hints workers.old.items) (all_hints workers.new.items) }
 {
     if let Some(row) = workers[worker].newest_hint() {
         return Some(row);
@@ -102,7 +103,7 @@ impl<C: Course> Pool<C> {
         ensures posted { IfOk result (λ pool. pool.posted ≡ []) }
         ensures count { IfOk result (λ pool. length pool.workers.items ≡ workers) }
         ensures calls { IfOk result (λ pool. (before : List (Option (List Note))) → length before ≡ workers → KernelsCalled before before pool.table.views) }
-        ensures begins { IfOk result (λ pool. (strikes : List Strike) → workers ≡ 1 → IsStormRun (G.graph graph.now) strikes C.setting → BeginsAlone (G.graph graph.now) strikes C.setting pool.table pool.workers.items) }
+        ensures begins { IfOk result (λ pool. (strikes : List Strike) → IsStormRun (G.graph graph.now) strikes C.setting → Begins (G.graph graph.now) strikes C.setting pool.table pool.workers.items) }
     {
         let layout = Layout::of(alloc, graph)?;
         let row = root_row(layout.rows);
@@ -123,7 +124,7 @@ impl<C: Course> Pool<C> {
         ensures results { SameResults (view_in self.old.table.views worker) (view_in self.new.table.views worker) }
         ensures others { OthersStay self.old.table.views self.new.table.views worker }
         ensures posted { self.new.posted ≡ self.old.posted }
-        ensures pays { (g : Graph) (strikes : List Strike) → WorkersHold g C.setting self.old.table.views self.old.workers.items → PaysTurn g C.setting strikes self.old.table self.old.workers.items self.new.table self.new.workers.items }
+        ensures makes { (g : Graph) (strikes : List Strike) → IsRun g C.setting → WorkersHold g C.setting self.old.table.views self.old.workers.items → MakesTurn g C.setting strikes worker self.old.table self.old.workers.items self.new.table self.new.workers.items }
     {
         let at = worker as usize;
         if let Some(row) = hint_for(&mut self.workers, at) {
@@ -154,7 +155,7 @@ impl<C: Course> Pool<C> {
         ensures outcome { KernelsMake (G.graph terms.now.graph.now) C.setting Ke.outcome Ke.fits kernels.new.items }
         ensures kernels { (before : List Ke) → SameKernels Ke.outcome Ke.fits before kernels.old.items → SameKernels Ke.outcome Ke.fits before kernels.new.items }
         ensures count { length self.new.table.views ≡ length self.old.table.views }
-        ensures pays { IfOk result (λ spent. spent ≡ None → PaysTurn (G.graph terms.now.graph.now) C.setting terms.now.plan.now self.old.table self.old.workers.items self.new.table self.new.workers.items) }
+        ensures makes { IfOk result (λ spent. spent ≡ None → MakesTurn (G.graph terms.now.graph.now) C.setting terms.now.plan.now worker self.old.table self.old.workers.items self.new.table self.new.workers.items) }
     {
         let at = worker as usize;
         if self.workers[at].is_idle() {
@@ -197,7 +198,7 @@ impl<C: Course> Pool<C> {
         ensures calls { (before : List (Option (List Note))) → KernelsCalled before (map Ke.calls kernels.old.items) self.old.table.views → KernelsCalled before (map Ke.calls kernels.new.items) self.new.table.views }
         ensures kernels { SameKernels Ke.outcome Ke.fits kernels.old.items kernels.new.items }
         ensures count { length self.new.table.views ≡ length self.old.table.views }
-        ensures paid { BeginsAlone (G.graph terms.now.graph.now) terms.now.plan.now C.setting self.old.table self.old.workers.items → result ≡ Stop.Over → slice_index self.new.table.words 0 ≢ 0 → IsPaid (G.graph terms.now.graph.now) terms.now.plan.now (length schedule.now) turns (count is_any_replaced (view_at self.new.table 0).records) }
+        ensures paid { Begins (G.graph terms.now.graph.now) terms.now.plan.now C.setting self.old.table self.old.workers.items → IsListed schedule.now 0 → result ≡ Stop.Over → slice_index self.new.table.words 0 ≢ 0 → IsPaid (G.graph terms.now.graph.now) terms.now.plan.now (length self.new.table.views) (length schedule.now) turns (total_of self.new.table.views (noted is_any_replaced)) }
     {
         for i in 0..turns {
             let worker = schedule[(i % schedule.len() as u64) as usize];

@@ -5,6 +5,7 @@ ghost use Rattle.core_state.specs.Counts.{count};
 ghost use Rattle.core_state.specs.Rooted.{setting_of};
 ghost use Rattle.core_state.specs.Tests.{is_any_replaced};
 ghost use Rattle.run_bounds.specs.Budgets.{enough_turns};
+ghost use Rattle.run_bounds.specs.Moving.{IsListed};
 ghost use Rattle.run_bounds.specs.Storm.{enough_turns_of};
 ghost use Rattle.worker_pool.specs.Calling.{AreAlike, CalledAsRecorded, CanRun, FirstFits, SameKernels, first_outcome};
 ghost use Rattle.worker_pool.specs.Completing.{AnswersPlan, HasOneVersion, IsComplete, StrikesNoBlock};
@@ -39,7 +40,8 @@ fn run_all<C: Course, G: TaskGraph, Ke: Kernel>(
     ensures tells { RunTells (G.graph terms.now.graph.now) (first_outcome Ke.outcome kernels.old.items) terms.now.plan.now terms.now.lives result.0 result.1.items }
     ensures calls { RunCalls (G.graph terms.now.graph.now) (map Ke.calls kernels.old.items) (map Ke.calls kernels.new.items) result.0 result.1.items }
     ensures kernels { SameKernels Ke.outcome Ke.fits kernels.old.items kernels.new.items }
-    ensures paid { length kernels.old.items ≡ 1 → enough_turns_of (G.graph terms.now.graph.now) (length schedule.now) (length terms.now.plan.now) (count is_any_replaced result.1.items) ≤ turns → IfErr result.0 IsNotShort }
+    ensures paid { IsListed schedule.now 0 → enough_turns_of (G.graph terms.now.graph.now) (length schedule.now) (length terms.now.plan.now) (count is_any_replaced result.1.items) ≤ turns → IfErr result.0 IsNotShort }
+    ensures empty { IsListed schedule.now 0 → terms.now.plan.now ≡ [] → enough_turns_of (G.graph terms.now.graph.now) (length schedule.now) 0 0 ≤ turns → IfErr result.0 IsNotShort }
     ensures calm { length kernels.old.items ≡ 1 → terms.now.plan.now ≡ [] → enough_turns (G.graph terms.now.graph.now) ≤ turns → IfErr result.0 IsNotShort }
 {
     let Ok(mut pool) = Pool::<C>::new(alloc, terms.graph, kernels.len() as u32) else {
@@ -78,8 +80,9 @@ pub fn run_virtual<G: TaskGraph, Ke: Kernel>(
     ensures end_calls { IfErr result (λ r. EndCalls (G.graph graph.now) (map Ke.calls kernels.items) (map Ke.calls r.kernels.items) r.why r.records.items) }
     ensures end_kernels { IfErr result (λ r. SameKernels Ke.outcome Ke.fits kernels.items r.kernels.items) }
     ensures complete { IfErr result (λ r. IsComplete (G.graph graph.now) plan.now lives r.why r.records.items) }
-    ensures paid { length kernels.items ≡ 1 → IfErr result (λ r. enough_turns_of (G.graph graph.now) (length schedule.now) (length plan.now) (count is_any_replaced r.records.items) ≤ turns → IsNotShort r.why) }
-    ensures planned { length kernels.items ≡ 1 → StrikesNoBlock plan.now → HasOneVersion (G.graph graph.now) → enough_turns_of (G.graph graph.now) (length schedule.now) (length plan.now) (length plan.now) ≤ turns → IfErr result (λ r. IsNotShort r.why) }
+    ensures paid { IsListed schedule.now 0 → IfErr result (λ r. enough_turns_of (G.graph graph.now) (length schedule.now) (length plan.now) (count is_any_replaced r.records.items) ≤ turns → IsNotShort r.why) }
+    ensures planned { IsListed schedule.now 0 → StrikesNoBlock plan.now → HasOneVersion (G.graph graph.now) → enough_turns_of (G.graph graph.now) (length schedule.now) (length plan.now) (length plan.now) ≤ turns → IfErr result (λ r. IsNotShort r.why) }
+    ensures empty { IsListed schedule.now 0 → plan.now ≡ [] → enough_turns_of (G.graph graph.now) (length schedule.now) 0 0 ≤ turns → IfErr result (λ r. IsNotShort r.why) }
     ensures calm { length kernels.items ≡ 1 → plan.now ≡ [] → enough_turns (G.graph graph.now) ≤ turns → IfErr result (λ r. IsNotShort r.why) }
 {
     prove!(plan.len() <= 4_096);

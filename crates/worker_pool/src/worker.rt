@@ -1,5 +1,5 @@
 //! A worker: a task or a hint in service, and hints.
-ghost use Rattle.std.specs.Prelude.{◌≡◌, ◌≢◌, ◌+◌, ◌<◌, ◌≤◌, All, IfOk, IfSome, List, MatchOption, None, OnErr, OnOk, Option, Some, [], false, length, true, ℕ};
+ghost use Rattle.std.specs.Prelude.{◌≡◌, ◌≢◌, ◌+◌, ◌*◌, ◌<◌, ◌≤◌, All, IfOk, IfSome, List, MatchOption, None, OnErr, OnOk, Option, Some, [], false, length, true, ℕ};
 ghost use Rattle.std.specs.VecDeque.{deque_capacity, deque_len};
 ghost use Rattle.compute_notify.specs.Eventing.{item_hints};
 ghost use Rattle.compute_notify.specs.Items.{job_item};
@@ -18,7 +18,7 @@ ghost use Rattle.recovery.specs.Memory.{KnowsKey, SameResults};
 ghost use Rattle.run_bounds.specs.Hinting.{HintTaken, HintsPut};
 ghost use Rattle.run_bounds.specs.Doing.Doing.{asks, idle};
 ghost use Rattle.worker_pool.specs.Calling.{HasCalled};
-ghost use Rattle.worker_pool.specs.Paying.{GoesOn, TurnsTask, doing_of};
+ghost use Rattle.worker_pool.specs.Sharing.{SharesTurn, TurnsTask, doing_of};
 ghost use Rattle.worker_pool.specs.Working.{IsIdle, IsNewWorker, KeepsTable, NamesTasks, SpentShown, WorkHolds, WorkScratch, WorkerHolds, is_idle, spent_of};
 
 use compute_notify::{Run, Scratch, Task};
@@ -133,7 +133,7 @@ fn serve<T: Steps>(
     ensures err { OnErr result (T.view steps.new ≡ T.view steps.old) }
     ensures results { SameResults (T.view steps.old) (T.view steps.new) }
     ensures table { KeepsTable T.setting T.lender T.others steps.old steps.new }
-    ensures pays { (g : Graph) (p : List Strike) (lives most : ℕ) (hints : List ℕ) → Runs g p lives (T.setting steps.old) → IfOk result (λ work. GoesOn T.view T.happened T.KeyWords.made T.lender (T.setting steps.old) p most (asks row key.0 job) hints steps.old (doing_of work) hints steps.new) }
+    ensures pays { (g : Graph) (p : List Strike) (lives most : ℕ) (hints : List ℕ) → Runs g p lives (T.setting steps.old) → IfOk result (λ work. SharesTurn T.view T.happened T.KeyWords.made T.lender (T.setting steps.old) p most (asks row key.0 job) hints steps.old (doing_of work) hints steps.new) }
 {
     steps.reserve(1)?;
     let life = steps.take(row, job);
@@ -277,7 +277,7 @@ impl Worker {
         ensures same { self.new ≡ record self.old { hints = self.new.hints } }
         ensures hints { (rows : ℕ) → All (λ row. row < rows) self.old.hints.items → All (λ row. row < rows) self.new.hints.items }
         ensures row { (rows : ℕ) → All (λ row. row < rows) self.old.hints.items → IfSome result (λ row. row < rows) }
-        ensures taken { MatchOption result (self.old.hints.items ≡ []) (λ row. HintTaken self.old.hints.items row self.new.hints.items) }
+        ensures taken { MatchOption result ((self.old.hints.items ≡ []) × (self.new.hints.items ≡ [])) (λ row. HintTaken self.old.hints.items row self.new.hints.items) }
     {
         self.hints.pop_back()
     }
@@ -287,6 +287,7 @@ impl Worker {
         ensures same { self.new ≡ record self.old { hints = self.new.hints } }
         ensures hints { (rows : ℕ) → All (λ row. row < rows) self.old.hints.items → All (λ row. row < rows) self.new.hints.items }
         ensures row { (rows : ℕ) → All (λ row. row < rows) self.old.hints.items → IfSome result (λ row. row < rows) }
+        ensures taken { MatchOption result ((self.old.hints.items ≡ []) × (self.new.hints.items ≡ [])) (λ row. HintTaken self.old.hints.items row self.new.hints.items) }
     {
         self.hints.pop_front()
     }
@@ -298,7 +299,7 @@ impl Worker {
         ensures holds { (g : Graph) → NamesTasks g (T.setting steps.old) → WorkerHolds g (T.setting steps.old) (T.view steps.old) self.old → WorkerHolds g (T.setting steps.old) (T.view steps.new) self.new }
         ensures results { SameResults (T.view steps.old) (T.view steps.new) }
         ensures table { KeepsTable T.setting T.lender T.others steps.old steps.new }
-        ensures pays { (p : List Strike) (most : ℕ) (hints : List ℕ) → IsIdle (T.view steps.old) → HintTaken hints row self.old.hints.items → GoesOn T.view T.happened T.KeyWords.made T.lender (T.setting steps.old) p most idle hints steps.old (doing_of self.new.work) self.new.hints.items steps.new }
+        ensures pays { (p : List Strike) (most : ℕ) (hints : List ℕ) → IsIdle (T.view steps.old) → HintTaken hints row self.old.hints.items → SharesTurn T.view T.happened T.KeyWords.made T.lender (T.setting steps.old) p most idle hints steps.old (doing_of self.new.work) self.new.hints.items steps.new }
     {
         if let Seen::Holds { key } = steps.look(row) {
             self.work = Work::Serve {
@@ -328,7 +329,7 @@ impl Worker {
         ensures kernel { SameKernel (Ke.outcome kernel.old) (Ke.outcome kernel.new) (Ke.fits kernel.old) (Ke.fits kernel.new) }
         ensures posted { posted.new ≡ [] }
         ensures table { KeepsTable T.setting T.lender T.others steps.old steps.new }
-        ensures pays { IfOk result (λ spent. spent ≡ None → (most : ℕ) → ((k : ℕ) → suspect_rest (T.setting steps.old) k + 1 ≤ most) → is_idle self.old.work ≡ false → GoesOn T.view T.happened T.KeyWords.made T.lender (T.setting steps.old) terms.now.plan.now most (doing_of self.old.work) self.old.hints.items steps.old (doing_of self.new.work) self.new.hints.items steps.new) }
+        ensures pays { IfOk result (λ spent. spent ≡ None → (most : ℕ) → ((k : ℕ) → 2 * suspect_rest (T.setting steps.old) k + 2 ≤ most) → is_idle self.old.work ≡ false → SharesTurn T.view T.happened T.KeyWords.made T.lender (T.setting steps.old) terms.now.plan.now most (doing_of self.old.work) self.old.hints.items steps.old (doing_of self.new.work) self.new.hints.items steps.new) }
     {
         match &mut self.work {
             Work::Idle => Ok(None),

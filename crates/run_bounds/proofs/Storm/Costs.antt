@@ -1,5 +1,5 @@
--- What is charged for jobs, marks and bad blocks, by the rows, the tasks, their places and the lives that were replaced.
-use Rattle.std.proofs.Common.{◌≡◌, ℕ, suc, ◌+◌, ◌-◌, ◌*◌, ◌<◌, ◌≤◌, eqb, List, [], ◌∷◌, length, Contains, ⊎_elim, arith, ap}
+-- What is charged for jobs and bad blocks, by the rows, the tasks, their places and the lives that were replaced.
+use Rattle.std.proofs.Common.{◌≡◌, ℕ, suc, ◌+◌, ◌-◌, ◌*◌, ◌<◌, ◌≤◌, eqb, List, [], ◌∷◌, length, Contains, ⊎_elim, arith, ap, ◌∙◌}
 use Rattle.std.specs.List.{sum_by}
 use Rattle.std.proofs.Math.Nat.{mul-le-mul_left}
 use Rattle.std.proofs.lemmas.Bool.Decides.{eqb_tells}
@@ -60,9 +60,9 @@ module _ (e : Setting) where
         let c : 24 * (t + 1) * (2 * (n + t + 2)) ≡ 48 * ((t + 1) * (n + t + 2)) = grind arith in
         let d : 24 * e.shape.rows * (sum_by e.graph.places e.keys + sum_by e.graph.ports e.keys + 2 * length e.keys) ≡ 24 * (t + 1) * (sum_by e.graph.places e.keys + sum_by e.graph.ports e.keys + 2 * length e.keys) = ap (λ r. 24 * r * (sum_by e.graph.places e.keys + sum_by e.graph.ports e.keys + 2 * length e.keys)) rows in omega (arith, a, b, c, d)
 
-    -- a replacement that is begun
-    pub suspect_few : (k : ℕ) → Contains e.keys k → e.graph.notify_words k ≤ 17 → suspect_rest e k + 1 ≤ 20 * (t + 1) * (n + 4)
-    suspect_few k has words = let a = few_ports k (counted_in k e.keys has) in
+    -- two replacements that are begun
+    pub suspect_twice : (k : ℕ) → Contains e.keys k → e.graph.notify_words k ≤ 17 → 2 * suspect_rest e k + 2 ≤ 20 * (t + 1) * (n + 4)
+    suspect_twice k has words = let a = few_ports k (counted_in k e.keys has) in
         let b : (t + 10) * (e.graph.ports k - 0) ≤ (t + 10) * (n + 1) = mul-le-mul_left (t + 10) (omega (arith, a)) in
         let c : (e.graph.ports k - 0) * (e.shape.rows + 9) ≡ (e.graph.ports k - 0) * (t + 1 + 9) = ap (λ r. (e.graph.ports k - 0) * (r + 9)) rows in
         let d : (e.graph.ports k - 0) * (t + 1 + 9) ≡ (t + 10) * (e.graph.ports k - 0) = grind arith in
@@ -84,11 +84,10 @@ module _ (e : Setting) where
         let f : 2 * (24 * ((t + 1) * (2 * n + 4))) * count is_any_replaced rs ≡ count is_any_replaced rs * (48 * ((t + 1) * (2 * n + 4))) = grind arith in
         let h : count is_any_replaced rs * (48 * ((t + 1) * (2 * n + 4))) ≤ count is_any_replaced rs * (80 * ((t + 1) * (2 * n + 4))) = mul-le-mul_left (count is_any_replaced rs) (omega arith) in omega (arith, a, b, c, d, f, h)
 
-    -- no life costs more than the first lives of all tasks
-    pub jobs_few : (p : List Strike) (rs : List Record) (xs : List Lived) → ((a k l : ℕ) → count (is_lived a k l) xs ≤ 1) → ((a k l : ℕ) → 0 < count (is_lived a k l) xs → (a < 2) × IsComeTo e.keys rs k l)
-        → sum_by (job_cost e p) xs ≤ 160 * ((t + 1) * (n + t + 2)) + 160 * (count is_any_replaced rs * ((t + 1) * (n + t + 2))) + 8 * length p
-    jobs_few p rs xs once come =
-        let a = jobs_fewer p rs xs once come in let r = count is_any_replaced rs in
-        let b : r * (80 * (t + 1)) * (2 * n + 4) ≤ r * (80 * (t + 1)) * (2 * (n + t + 2)) = mul-le-mul_left (r * (80 * (t + 1))) (omega arith) in
-        let c : r * (80 * (t + 1)) * (2 * n + 4) ≡ r * (80 * ((t + 1) * (2 * n + 4))) = grind arith in
-        let d : r * (80 * (t + 1)) * (2 * (n + t + 2)) ≡ 160 * (r * ((t + 1) * (n + t + 2))) = grind arith in omega (arith, a, b, c, d)
+    -- without a strike and a replaced life
+    pub jobs_calm : (rs : List Record) (xs : List Lived) → count is_any_replaced rs ≡ 0 → ((a k l : ℕ) → count (is_lived a k l) xs ≤ 1) → ((a k l : ℕ) → 0 < count (is_lived a k l) xs → (a < 2) × IsComeTo e.keys rs k l)
+        → sum_by (job_cost e []) xs ≤ 96 * ((t + 1) * (n + t + 2))
+    jobs_calm rs xs none once come =
+        let a = lived_cost 2 (24 * ((t + 1) * (2 * n + 4))) base e.keys rs base_few xs once come in let b = strikes_few 2 [] xs once (λ a k l some. (come a k l some).0) in
+        let c = parted [] xs in let d = first_few in
+        let f : 2 * (24 * ((t + 1) * (2 * n + 4))) * count is_any_replaced rs ≡ 0 = ap (λ r. 2 * (24 * ((t + 1) * (2 * n + 4))) * r) none ∙ omega arith in omega (arith, a, b, c, d, f)

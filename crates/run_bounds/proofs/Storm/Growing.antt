@@ -20,13 +20,10 @@ use Rattle.core_state.proofs.Base.Counting.{bump_is}
 use Rattle.core_state.proofs.Lines.Counts.{items_counted}
 use Rattle.core_state.proofs.Lines.Ends.{ended_settled}
 use Rattle.core_state.proofs.Lines.Leaves.{HasLine, pushes, stepped}
+use Rattle.run_bounds.proofs.JobChanges.{suspect_bare}
 use Rattle.run_bounds.proofs.Jobs.{settled_begun}
 
--- a suspect carries no job, nor does a renewal
-bare_suspect : (i : Job) (k l a m : ℕ) (c : Cause) (waits : Bool) → hit (carries i k l (item.Suspect a m c waits)) ≡ 0
-bare_suspect job.Explore k l a m c waits = refl
-bare_suspect job.Compute k l a m c waits = refl
-
+-- a renewal carries no job
 bare_renewal : (i : Job) (k l a m d : ℕ) → hit (carries i k l (item.Renew a m d)) ≡ 0
 bare_renewal job.Explore k l a m d = refl
 bare_renewal job.Compute k l a m d = refl
@@ -43,7 +40,7 @@ module _ (e : Setting) (n : ℕ) (v w : View) (i : Job) (k l : ℕ) where
       let f = items_counted (carries i k l) v in let g = ap (counted (carries i k l)) top in let h = bump_is (carries i k l y) (counted (carries i k l) b) in omega (arith, a, c, d, f, g, h, bare, more)
 
   pub elected_grows : (r a m : ℕ) (c : Cause) (waits : Bool) (b : List Line) → flat v.stacks ≡ of (item.Suspect a m c waits) ∷ b → w ≡ after e (elect r a m c waits) n v → begun i k l v ≤ begun i k l w
-  elected_grows r a m c waits b top is = grown (elect r a m c waits) (item.Suspect a m c waits) b top (bare_suspect i k l a m c waits) refl (by (elected_of m n)) is
+  elected_grows r a m c waits b top is = grown (elect r a m c waits) (item.Suspect a m c waits) b top (ap hit (suspect_bare i k l a m c waits)) refl (by (elected_of m n)) is
     where
       here : counted (carries i k l) b ≤ counted (carries i k l) (of (item.Suspect a m c waits) ∷ b)
       here = let z = bump_is (carries i k l (item.Suspect a m c waits)) (counted (carries i k l) b) in omega (arith, z)

@@ -74,15 +74,16 @@ use Rattle.compute_notify.proofs.Striking.Points.{ready_none}
 use Rattle.compute_notify.proofs.Striking.Turns.{close_asks, explore_asks, ready_asks}
 use Rattle.compute_notify.proofs.Telling.{behind, port_top}
 use Rattle.compute_notify.proofs.Topmost.{close_unfinished}
-use Rattle.run_bounds.specs.Struck.{IsBlamed, IsLone}
-use Rattle.run_bounds.proofs.Storm.Lone.{known_row}
-use Rattle.run_bounds.proofs.Storm.Sorts.{IsPlain, Plain, ReadBad, Sort, is_plain}
+use Rattle.run_bounds.specs.Struck.{IsBlamed}
+use Rattle.run_bounds.proofs.Shared.Parts.{known_row}
+use Rattle.run_bounds.specs.Shared.{IsPart, IsPlain, is_plain}
+use Rattle.run_bounds.proofs.Storm.Sorts.{Plain, ReadBad, Sort}
 
 -- there is nothing, or something
-abbrev IsSome : {X : Type 0} → Option X → Type 0
+abbrev pub IsSome : {X : Type 0} → Option X → Type 0
 IsSome {X} o = (x : X) × (o ≡ Some x)
 
-none_or_some : {X : Type 0} (o : Option X) → (o ≡ None) ⊎ IsSome o
+pub none_or_some : {X : Type 0} (o : Option X) → (o ≡ None) ⊎ IsSome o
 none_or_some None = inl refl
 none_or_some (Some x) = inr (x, refl)
 
@@ -91,14 +92,14 @@ plain_top : (e : Setting) (v : View) (z : Carried) (b : List Line) → flat v.st
 plain_top e v z b top plain = record { first = of z; below = b; top = top; plain = plain }
 
 -- what the view says of the suspect that stands first
-pub waits_here : (v : View) (k l : ℕ) (c : Cause) (waits : Bool) (b : List Line) → flat v.stacks ≡ of (line.Suspect k l c waits) ∷ b → work_waits v ≡ waits
+waits_here : (v : View) (k l : ℕ) (c : Cause) (waits : Bool) (b : List Line) → flat v.stacks ≡ of (line.Suspect k l c waits) ∷ b → work_waits v ≡ waits
 waits_here v k l c waits b top = let it = at_work v (line.Suspect k l c waits) b top in ap (λ ss. first_waits (top_items ss)) it.stacks_are ∙ ap first_waits it.items_are
 
-pub life_here : (v : View) (k l d : ℕ) (b : List Line) → flat v.stacks ≡ of (line.Renew k l d) ∷ b → work_life v ≡ l
+life_here : (v : View) (k l d : ℕ) (b : List Line) → flat v.stacks ≡ of (line.Renew k l d) ∷ b → work_life v ≡ l
 life_here v k l d b top = let it = at_work v (line.Renew k l d) b top in ap (λ ss. Rattle.core_steps.specs.Serving.first_life (top_items ss)) it.stacks_are ∙ ap Rattle.core_steps.specs.Serving.first_life it.items_are
 
 -- a computing that reads a bad block has ended
-pub bad_ends : (e : Setting) (v w : View) (n k l i : ℕ) (was : BlockCells) (b : List Line) → i < e.graph.inputs k → flat v.stacks ≡ of (line.Compute k l true i false) ∷ b → is_good (e.graph.version (e.graph.pred k i).task) was ≡ false → w ≡ after e (give_read (e.graph.block (e.graph.pred k i).task) was) n v → ReadBad v w
+bad_ends : (e : Setting) (v w : View) (n k l i : ℕ) (was : BlockCells) (b : List Line) → i < e.graph.inputs k → flat v.stacks ≡ of (line.Compute k l true i false) ∷ b → is_good (e.graph.version (e.graph.pred k i).task) was ≡ false → w ≡ after e (give_read (e.graph.block (e.graph.pred k i).task) was) n v → ReadBad v w
 bad_ends e v w n k l i was b low top bad is = let a : ℕ = e.graph.block (e.graph.pred k i).task in let x : Event = give_read a was in record {
   key = k;
   life = l;
@@ -113,7 +114,7 @@ bad_ends e v w n k l i was b low top bad is = let a : ℕ = e.graph.block (e.gra
       let one = ap (count (is_ended job.Compute k l)) first in let c = bump_is (Rattle.core_state.specs.Tests.two k l k l) (count (is_ended job.Compute k l) v.ended) in let d = ap hit (two_here k l) in omega (arith, all, kept, one, c, d);
 }
 
-module _ {e : Setting} {s : Core} {v : View} (lone : IsLone e s v) (w : View) (g : TaskGraph) (p : List Strike) (lives : ℕ) (runs : Runs g p lives e) (n : ℕ) (h now : Option BlockCells) (before rest : ℕ) where
+module _ {e : Setting} {s : Core} {v : View} (part : IsPart e s v) (w : View) (g : TaskGraph) (p : List Strike) (lives : ℕ) (runs : Runs g p lives e) (n : ℕ) (h now : Option BlockCells) (before rest : ℕ) where
   abbrev Falls : Type 0
   Falls = rest + 1 ≤ before
 
@@ -121,16 +122,16 @@ module _ {e : Setting} {s : Core} {v : View} (lone : IsLone e s v) (w : View) (g
   SortOf u y x rows = Sort e p v u w n Falls y x rows
 
   reached : (r k : ℕ) → KnowsKey e v r k → Reached e.graph k
-  reached r k knows = lone.holds.keys.reached r k (known_row lone r k (row_known e v r k knows).row_known)
+  reached r k knows = part.holds.keys.reached r k (known_row part r k (row_known e v r k knows).row_known)
 
   -- the word of a port is one of the table
   port_word : (a q : ℕ) → q < e.graph.ports a → q / 40 < e.shape.notify_words
-  port_word a q low = let b = lone.sound.lawful.enough_words a q low in let c = lone.sound.words_fit a in omega (arith, b, c)
+  port_word a q low = let b = part.sound.lawful.enough_words a q low in let c = part.sound.words_fit a in omega (arith, b, c)
 
   -- a strike
   module _ (y : Item) (duty : Duty) (z : Carried) (b : List Line) (top : flat v.stacks ≡ of z ∷ b) (plain : is_plain (of z) ≡ true) (knows : KnowsKey e v duty.row duty.key.0) where
     own_low : e.graph.block duty.key.0 < e.shape.blocks
-    own_low = lone.sound.blocks_fit duty.key.0 (reached duty.row duty.key.0 knows)
+    own_low = part.sound.blocks_fit duty.key.0 (reached duty.row duty.key.0 knows)
 
     strikes_block : (o : Option BlockCells) → FitsHand e v duty.key.0 duty.life o → MakesStrike e v duty.key.0 duty.life target.Block → w ≡ after e (strike_event e v duty target.Block o now) n v → SortOf v y (strike_event e v duty target.Block o now) []
     strikes_block None hand makes is = Sort.serves (hand, own_low) (plain_top e v z b top plain) refl
@@ -150,7 +151,7 @@ module _ {e : Setting} {s : Core} {v : View} (lone : IsLone e s v) (w : View) (g
             bad true same = absurd cc
             bad false same = refl
 
-    pub strikes : (on : Target) → FitsHand e v duty.key.0 duty.life h → MakesStrike e v duty.key.0 duty.life on → w ≡ after e (strike_event e v duty on h now) n v → SortOf v y (strike_event e v duty on h now) []
+    strikes : (on : Target) → FitsHand e v duty.key.0 duty.life h → MakesStrike e v duty.key.0 duty.life on → w ≡ after e (strike_event e v duty on h now) n v → SortOf v y (strike_event e v duty on h now) []
     strikes target.Descriptor hand makes is = Sort.serves tt (plain_top e v z b top plain) refl
     strikes (target.Notify m) hand makes is = Sort.serves tt (plain_top e v z b top plain) refl
     strikes target.Block hand makes is = strikes_block h hand makes is
@@ -165,7 +166,7 @@ module _ {e : Setting} {s : Core} {v : View} (lone : IsLone e s v) (w : View) (g
       by : (b : Bool) (way : Reaching) → FitsReaching e v x.duty.key.0 x.place way → Plain e v v w n Falls (cond b (explore_event e v x way) (spend x.duty.row (known_key x.duty.row v) 40))
       by true reaching.Start fits = tt
       by true (reaching.Seek q) fits = tt
-      by true (reaching.Register r) fits = (row_here e v r (e.graph.pred x.duty.key.0 x.place).task fits.1, port_word (e.graph.pred x.duty.key.0 x.place).task (e.graph.pred x.duty.key.0 x.place).port (lone.sound.lawful.back x.duty.key.0 x.place fits.0).0)
+      by true (reaching.Register r) fits = (row_here e v r (e.graph.pred x.duty.key.0 x.place).task fits.1, port_word (e.graph.pred x.duty.key.0 x.place).task (e.graph.pred x.duty.key.0 x.place).port (part.sound.lawful.back x.duty.key.0 x.place fits.0).0)
       by true reaching.Spend fits = own
       by false way fits = own
 
@@ -212,11 +213,11 @@ module _ {e : Setting} {s : Core} {v : View} (lone : IsLone e s v) (w : View) (g
         (plain_top e v (line.Compute c.duty.key.0 c.duty.life false 0 false) b top refl) refl
 
     own_fits : e.graph.block c.duty.key.0 < e.shape.blocks
-    own_fits = lone.sound.blocks_fit c.duty.key.0 (reached c.duty.row c.duty.key.0 stands.fits.duty.known)
+    own_fits = part.sound.blocks_fit c.duty.key.0 (reached c.duty.row c.duty.key.0 stands.fits.duty.known)
 
     input_fits : (i : ℕ) → i < e.graph.inputs c.duty.key.0 → e.graph.block (e.graph.pred c.duty.key.0 i).task < e.shape.blocks
-    input_fits i low = let few = lone.sound.lawful.few_inputs c.duty.key.0 in
-        lone.sound.blocks_fit (e.graph.pred c.duty.key.0 i).task (through c.duty.key.0 i (reached c.duty.row c.duty.key.0 stands.fits.duty.known) (omega (arith, low, few)))
+    input_fits i low = let few = part.sound.lawful.few_inputs c.duty.key.0 in
+        part.sound.blocks_fit (e.graph.pred c.duty.key.0 i).task (through c.duty.key.0 i (reached c.duty.row c.duty.key.0 stands.fits.duty.known) (omega (arith, low, few)))
 
     -- the view from which a computing makes its step
     abbrev from : Phase → View

@@ -1,20 +1,24 @@
 -- A view in which a result was made is as it was, but for that; and what a step adds to it.
-use Rattle.std.proofs.Common.{◌≡◌, ℕ, ◌≤◌, Bool, true, false, cond, not, nat_lt, List, ◌∷◌, length, arith, refl, ap}
+use Rattle.std.proofs.Common.{◌≡◌, ℕ, ◌≤◌, Bool, true, false, cond, not, nat_lt, List, ◌∷◌, length, arith, refl, ap, sym, ◌∙◌, subst}
 use mathlib.Core.Option.{Option, some, none}
 use Rattle.graph_model.specs.Graph.{Graph as TaskGraph}
-use Rattle.core_state.specs.Counts.{noted}
+use Rattle.core_state.specs.Counts.{begun, hit, noted}
 use Rattle.core_state.specs.Effects.{after_computed, missed, missed_by}
 use Rattle.core_state.specs.Events.{Event, after}
 use Rattle.core_state.specs.Events.Event.{give_read, give_struck, strike_descriptor, strike_notify}
 use Rattle.core_state.specs.Graph.{Setting}
-use Rattle.core_state.specs.Lines.{HasLines, of}
+use Rattle.core_state.specs.Lines.{HasLines, Line, counted, flat, of}
 use Rattle.core_state.specs.Outcome.{made_next, strikes_left}
-use Rattle.core_state.specs.Tests.{is_any_struck, is_replaced}
+use Rattle.core_state.specs.Tests.{carries, is_any_replaced, is_any_struck}
 use Rattle.core_state.specs.Views.{strike_next}
 use Rattle.core_state.specs.declared.block.BlockCells.{BlockCells}
+use Rattle.core_state.specs.declared.job.Job.{Job}
+use Rattle.core_state.specs.declared.job.Job.TheVariants as job
 use Rattle.core_state.specs.declared.views.Item.TheVariants as line
 use Rattle.core_state.specs.declared.views.View.{View}
+use Rattle.core_state.proofs.Base.Counting.{bump_is}
 use Rattle.core_state.proofs.Lines.After.{computed_lines, line_stands}
+use Rattle.core_state.proofs.Lines.Counts.{items_counted}
 use Rattle.core_state.proofs.Lines.Leaves.{HasLine}
 use Rattle.core_state.proofs.Lines.Outcomes.{leaves}
 use Rattle.compute_notify.specs.Eventing.{computes, item_prepared}
@@ -23,44 +27,58 @@ use Rattle.compute_notify.specs.declared.compute.Phase.{Phase}
 use Rattle.compute_notify.specs.declared.compute.Phase.TheVariants as phase
 use Rattle.compute_notify.specs.declared.item.Item.{Item}
 use Rattle.compute_notify.specs.declared.item.Item.TheVariants as item
-use Rattle.run_bounds.proofs.Prepared.{IsReady, computed_ready, ready_same}
+use Rattle.run_bounds.specs.Light.{lines_weight}
+use Rattle.run_bounds.specs.Shared.{BehindPlain, IsPlain, IsTopped}
 
-pub record Prepared (v u : View) : Type 0 where
-  pub is_ready : IsReady v u
-  pub same_replaced : (k l : ℕ) → noted (is_replaced k l) u ≡ noted (is_replaced k l) v
+-- the item carries the same job once its result was made
+carries_made : (i : Job) (a m k l read : ℕ) (loaded made : Bool) → carries i a m (line.Compute k l loaded read true) ≡ carries i a m (line.Compute k l loaded read made)
+carries_made job.Explore a m k l read loaded made = refl
+carries_made job.Compute a m k l read loaded made = refl
+
+computed_begun : (v : View) (k l read : ℕ) (loaded made : Bool) (b : List Line) → flat v.stacks ≡ of (line.Compute k l loaded read made) ∷ b → (i : Job) (a m : ℕ) → begun i a m (after_computed k l v) ≡ begun i a m v
+computed_begun v k l read loaded made b top i a m =
+    let c = items_counted (carries i a m) (after_computed k l v) in let d = items_counted (carries i a m) v in let f = ap (counted (carries i a m)) (computed_lines v k l k l read loaded made b top) in let g = ap (counted (carries i a m)) top in
+    let h = bump_is (carries i a m (line.Compute k l loaded read true)) (counted (carries i a m) b) in let o = bump_is (carries i a m (line.Compute k l loaded read made)) (counted (carries i a m) b) in let q = ap hit (carries_made i a m k l read loaded made) in omega (arith, c, d, f, g, h, o, q)
+
+-- a view that is ready for a step: the same, or with a result that was made
+pub record Prepared (e : Setting) (v u : View) : Type 0 where
+  pub same_begun : (i : Job) (k l : ℕ) → begun i k l u ≡ begun i k l v
+  pub same_replaced : noted is_any_replaced u ≡ noted is_any_replaced v
   pub same_struck : noted is_any_struck u ≡ noted is_any_struck v
   pub same_ended : u.ended ≡ v.ended
   pub same_strikes : u.strikes ≡ v.strikes
+  pub same_hands : u.hands ≡ v.hands
   pub line_on : HasLine v → HasLine u
+  pub weighs : lines_weight e (flat u.stacks) ≡ lines_weight e (flat v.stacks)
+  pub plain_on : IsPlain v → IsPlain u
+  pub topped_on : IsTopped v → IsTopped u
 
-pub prepared_same : (v : View) → Prepared v v
-prepared_same v = record { is_ready = ready_same v; same_replaced = λ k l. refl; same_struck = refl; same_ended = refl; same_strikes = refl; line_on = λ has. has }
+pub prepared_same : (e : Setting) (v : View) → Prepared e v v
+prepared_same e v = record { same_begun = λ i k l. refl; same_replaced = refl; same_struck = refl; same_ended = refl; same_strikes = refl; same_hands = refl; line_on = λ has. has; weighs = refl; plain_on = λ plain. plain; topped_on = λ topped. topped }
 
-pub prepared : (g : TaskGraph) (e : Setting) (v : View) (y : Item) → Stands g e v y → Prepared v (item_prepared e.graph y v)
-prepared g e v item.Credit stands = prepared_same v
-prepared g e v (item.Explore x) stands = prepared_same v
-prepared g e v (item.Close c) stands = prepared_same v
-prepared g e v (item.Notify m) stands = prepared_same v
-prepared g e v (item.Look x) stands = prepared_same v
-prepared g e v (item.Owe o) stands = prepared_same v
-prepared g e v (item.Recover r) stands = prepared_same v
+pub prepared : (g : TaskGraph) (e : Setting) (v : View) (y : Item) → Stands g e v y → Prepared e v (item_prepared e.graph y v)
 prepared g e v (item.Compute c) stands = by c.phase stands.top.lines_are
   where
-    by : (q : Phase) → HasLines e v (compute_lines e.graph c.duty q stands.top.below) → Prepared v (cond (computes e.graph c q) (after_computed c.duty.key.0 c.duty.life v) v)
-    by (phase.Ready made) lines = prepared_same v
+    by : (q : Phase) → HasLines e v (compute_lines e.graph c.duty q stands.top.below) → Prepared e v (cond (computes e.graph c q) (after_computed c.duty.key.0 c.duty.life v) v)
     by (phase.Reading input) lines = to (not (nat_lt input (e.graph.inputs c.duty.key.0)))
       where
-        to : (b : Bool) → Prepared v (cond b (after_computed c.duty.key.0 c.duty.life v) v)
-        to true = let top = line_stands e v (line.Compute c.duty.key.0 c.duty.life true input false) stands.top.below refl lines in record {
-          is_ready = computed_ready v c.duty.key.0 c.duty.life input true false stands.top.below top;
-          same_replaced = λ k l. refl;
-          same_struck = refl;
-          same_ended = refl;
-          same_strikes = refl;
-          line_on = λ has. record { first = of (line.Compute c.duty.key.0 c.duty.life true input true); rest = stands.top.below; lines_are = computed_lines v c.duty.key.0 c.duty.life c.duty.key.0 c.duty.life input true false stands.top.below top };
-        }
-        to false = prepared_same v
-    by phase.Writing lines = prepared_same v
+        to : (b : Bool) → Prepared e v (cond b (after_computed c.duty.key.0 c.duty.life v) v)
+        to true = let below : List Line = stands.top.below in let top = line_stands e v (line.Compute c.duty.key.0 c.duty.life true input false) below refl lines in
+            let now : flat (after_computed c.duty.key.0 c.duty.life v).stacks ≡ of (line.Compute c.duty.key.0 c.duty.life true input true) ∷ below = computed_lines v c.duty.key.0 c.duty.life c.duty.key.0 c.duty.life input true false below top in record {
+              same_begun = computed_begun v c.duty.key.0 c.duty.life input true false below top;
+              same_replaced = refl;
+              same_struck = refl;
+              same_ended = refl;
+              same_strikes = refl;
+              same_hands = refl;
+              line_on = λ has. record { first = of (line.Compute c.duty.key.0 c.duty.life true input true); rest = below; lines_are = now };
+              weighs = ap (lines_weight e) now ∙ sym (ap (lines_weight e) top);
+              plain_on = λ plain. record { first = of (line.Compute c.duty.key.0 c.duty.life true input true); below = below; top = now; plain = refl };
+              topped_on = λ topped. subst BehindPlain (sym now) (subst BehindPlain top topped);
+            }
+        to false = prepared_same e v
+    by q lines = prepared_same e v
+prepared g e v y stands = prepared_same e v
 
 -- strikes that were made stay so
 made_more : (o : Option ℕ) (xs : List ℕ) → length xs ≤ length (made_next o xs)

@@ -2,7 +2,6 @@
 use Rattle.std.proofs.Common.{◌≡◌, ℕ, ◌+◌, ◌-◌, ◌*◌, ◌<◌, ◌≤◌, arith, subst}
 use Rattle.std.proofs.Math.Nat.{mul-le-mul_left}
 use Rattle.std.proofs.lemmas.Nat.{mul-le}
-use Rattle.run_bounds.proofs.Storm.Enough.{below}
 
 -- what one life more is charged: its jobs, its replacement and a bad block
 abbrev life_charge : ℕ → ℕ → ℕ
@@ -39,6 +38,13 @@ module _ (m n r t p : ℕ) (some : 0 < m) (tasks : 0 < t) where
   first_low : 3 * (160 * ((t + 1) * (p + t + 2))) + 4 ≤ 200 * square t p
   first_low = subst (λ (k : ℕ). 3 * (160 * ((k + 1) * (p + k + 2))) + 4 ≤ 200 * square k p) one_more (let a = first_sum (t - 1) p in omega (arith, a))
 
+  -- what is counted for each turn of a schedule, with one more, is less than the number
+  below : (each turns : ℕ) → each + 1 ≤ 200 * ((n + r + 1) * ((t + 1) * (p + t + 2)) * (p + t + 2)) → turns ≤ m * each → turns < 200 * m * (n + r + 1) * (t + 1) * (p + t + 2) * (p + t + 2)
+  below each turns low made =
+      let x : m * (each + 1) ≤ m * (200 * ((n + r + 1) * ((t + 1) * (p + t + 2)) * (p + t + 2))) = mul-le-mul_left m low in
+      let y : m * (each + 1) ≡ m * each + m = grind arith in
+      let z : m * (200 * ((n + r + 1) * ((t + 1) * (p + t + 2)) * (p + t + 2))) ≡ 200 * m * (n + r + 1) * (t + 1) * (p + t + 2) * (p + t + 2) = grind arith in omega (arith, x, y, z, made, some)
+
   -- what all moves together are charged
   charged : (most bads struck : ℕ) → most ≤ 20 * (t + 1) * (p + 4) → bads ≤ n * (t + 1) + r → struck ≤ n → most * (r + bads + 2 * struck) ≤ 2 * (r * (20 * (t + 1) * (p + 4))) + n * ((20 * (t + 1) * (p + 4)) * (t + 1) + 2 * (20 * (t + 1) * (p + 4)))
   charged most bads struck most_few bads_few struck_few =
@@ -55,4 +61,4 @@ module _ (m n r t p : ℕ) (some : 0 < m) (tasks : 0 < t) where
       let b : n * (3 * strike_charge t p) ≡ 3 * (8 * n) + 3 * (n * ((20 * (t + 1) * (p + 4)) * (t + 1) + 2 * (20 * (t + 1) * (p + 4)))) = grind arith in
       let c : 200 * ((n + r + 1) * ((t + 1) * (p + t + 2)) * (p + t + 2)) ≡ n * (200 * square t p) + r * (200 * square t p) + 200 * square t p = grind arith in
       let d = first_low in
-      below m n r t p some tasks (3 * (moves + 1)) turns (omega (arith, sum, lives, strikes, a, b, c, d, jobs_few, moves_few)) made
+      below (3 * (moves + 1)) turns (omega (arith, sum, lives, strikes, a, b, c, d, jobs_few, moves_few)) made

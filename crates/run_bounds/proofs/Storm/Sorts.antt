@@ -1,11 +1,10 @@
 -- What a step of an item is, whatever was struck: it closes a word, posts a job, elects, renews, or is one of the others.
-use Rattle.std.proofs.Common.{◌≡◌, ◌⊎◌, ℕ, ◌+◌, ◌/◌, ◌<◌, Bool, true, false, List, [], ◌∷◌, None, length, refl}
+use Rattle.std.proofs.Common.{◌≡◌, ◌⊎◌, ℕ, ◌+◌, ◌/◌, ◌<◌, Bool, false, List, [], ◌∷◌, None, length, refl}
 use Rattle.graph_model.specs.declared.plan.Strike.{Strike}
 use Rattle.graph_model.specs.declared.record.Cause.{Cause}
-use Rattle.graph_model.specs.declared.record.Cause.TheVariants as cause
 use Rattle.core_state.specs.Counts.{ended, held, items}
 use Rattle.core_state.specs.Events.{Event}
-use Rattle.core_state.specs.Events.Event.{claim, look, load_descriptor, load_notify, load_recovery, load_pending, load_stop, register, spend, close, elect, renew_notify, renew_descriptor, finish, strike_descriptor, strike_notify, post, take, buy, drop_credit, take_turn, give_read, give_written, give_struck, halt}
+use Rattle.core_state.specs.Events.Event.{load_descriptor, load_recovery, register, spend, close, elect, renew_notify, renew_descriptor, finish, post, take, take_turn, give_read, give_written}
 use Rattle.core_state.specs.Graph.{Setting}
 use Rattle.core_state.specs.Guards.{KnowsRow}
 use Rattle.core_state.specs.Lines.{Line, flat, of}
@@ -19,23 +18,10 @@ use Rattle.compute_notify.specs.Striking.{strike_left}
 use Rattle.compute_notify.specs.declared.close.Close.{Close}
 use Rattle.compute_notify.specs.declared.item.Item.{Item}
 use Rattle.compute_notify.specs.declared.item.Item.TheVariants as item
+use Rattle.run_bounds.specs.Shared.{IsPlain}
 use Rattle.run_bounds.specs.Struck.{IsBlamed}
 use Rattle.run_bounds.proofs.JobEvents.{Serves}
-use Rattle.run_bounds.proofs.Storm.Words.{on_job, on_recovery}
-
--- neither a renewal nor a suspect for a mark
-abbrev pub is_plain : Line → Bool
-is_plain (of (line.Renew k l d)) = false
-is_plain (of (line.Suspect k l cause.Descriptor waits)) = false
-is_plain (of (line.Suspect k l cause.Notify waits)) = false
-is_plain _ = true
-
--- such a line stands first
-pub record IsPlain (v : View) : Type 0 where
-  pub first : Line
-  pub below : List Line
-  pub top : flat v.stacks ≡ first ∷ below
-  pub plain : is_plain first ≡ true
+use Rattle.run_bounds.proofs.Storm.Words.{on_job}
 
 -- a computing read a bad block, and has ended
 pub record ReadBad (v w : View) : Type 0 where
@@ -80,56 +66,18 @@ pub data Sort (e : Setting) (p : List Strike) (v u w : View) (n : ℕ) (falls : 
 
 module _ (e : Setting) (v u w : View) (n : ℕ) (falls : Type 0) where
   pub plain_serves : (x : Event) → Plain e v u w n falls x → Serves x (flat u.stacks)
-  plain_serves (claim r k) is = tt
-  plain_serves (look r) is = tt
-  plain_serves (load_descriptor r k) is = tt
-  plain_serves (load_notify r k m) is = tt
   plain_serves (load_recovery r k) is = absurd is
-  plain_serves load_pending is = tt
-  plain_serves load_stop is = tt
-  plain_serves (register r k q) is = tt
-  plain_serves (spend r k j) is = tt
   plain_serves (close r k l m seen) is = absurd is
   plain_serves (elect r k l c waits) is = absurd is
   plain_serves (renew_notify r k l d) is = absurd is
   plain_serves (renew_descriptor r k l) is = absurd is
   plain_serves (finish r k l) is = absurd is
-  plain_serves (strike_descriptor r k l) is = tt
-  plain_serves (strike_notify r k l m) is = tt
   plain_serves (post r i k l) is = absurd is
-  plain_serves (take r i k) is = absurd is
-  plain_serves buy is = tt
-  plain_serves drop_credit is = tt
-  plain_serves (take_turn b was) is = tt
-  plain_serves (give_read b was) is = tt
   plain_serves (give_written k l b was now) is = is
-  plain_serves (give_struck k l b was now) is = tt
-  plain_serves halt is = tt
+  plain_serves x is = tt
 
-  -- it steps on no job word and on no recovery word
-  pub plain_apart : (x : Event) → Plain e v u w n falls x → (on_job x ≡ false) × (on_recovery x ≡ false)
-  plain_apart (claim r k) is = (refl, refl)
-  plain_apart (look r) is = (refl, refl)
-  plain_apart (load_descriptor r k) is = (refl, refl)
-  plain_apart (load_notify r k m) is = (refl, refl)
-  plain_apart (load_recovery r k) is = absurd is
-  plain_apart load_pending is = (refl, refl)
-  plain_apart load_stop is = (refl, refl)
-  plain_apart (register r k q) is = (refl, refl)
-  plain_apart (spend r k j) is = (refl, refl)
-  plain_apart (close r k l m seen) is = absurd is
-  plain_apart (elect r k l c waits) is = absurd is
-  plain_apart (renew_notify r k l d) is = absurd is
-  plain_apart (renew_descriptor r k l) is = absurd is
-  plain_apart (finish r k l) is = absurd is
-  plain_apart (strike_descriptor r k l) is = (refl, refl)
-  plain_apart (strike_notify r k l m) is = (refl, refl)
+  -- it steps on no job word
+  pub plain_apart : (x : Event) → Plain e v u w n falls x → on_job x ≡ false
   plain_apart (post r i k l) is = absurd is
   plain_apart (take r i k) is = absurd is
-  plain_apart buy is = (refl, refl)
-  plain_apart drop_credit is = (refl, refl)
-  plain_apart (take_turn b was) is = (refl, refl)
-  plain_apart (give_read b was) is = (refl, refl)
-  plain_apart (give_written k l b was now) is = (refl, refl)
-  plain_apart (give_struck k l b was now) is = (refl, refl)
-  plain_apart halt is = (refl, refl)
+  plain_apart x is = refl

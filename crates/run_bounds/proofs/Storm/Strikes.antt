@@ -16,7 +16,7 @@ use Rattle.run_bounds.proofs.Pigeons.{met, pigeons}
 use Rattle.run_bounds.proofs.Storm.Slots.{three_true}
 
 -- the key of what came
-abbrev pub key_in : Lived → Key
+abbrev key_in : Lived → Key
 key_in x = record { 0 = x.key }
 
 -- the strikes for the life in which it came

@@ -13,36 +13,23 @@ use Rattle.core_state.specs.declared.job.Job.{Job}
 use Rattle.core_state.specs.declared.job.Job.TheVariants as job
 use Rattle.core_state.specs.declared.views.View.{View}
 use Rattle.run_bounds.specs.Hinting.{HasHints}
-use Rattle.run_bounds.specs.Struck.{IsMade, lives_of}
+use Rattle.run_bounds.specs.Struck.{IsMade}
 
 -- which word it is
 abbrev is_job : Spot → Bool
 is_job (posted i r) = true
 is_job _ = false
 
-abbrev is_recovery : Spot → Bool
-is_recovery (recovery r) = true
-is_recovery _ = false
-
--- the event steps on a job word, or on a recovery word
+-- the event steps on a job word
 abbrev pub on_job : Event → Bool
 on_job x = is_job (at x)
 
-abbrev pub on_recovery : Event → Bool
-on_recovery x = is_recovery (at x)
-
 module _ {e : Setting} {s t : Core} {v w : View} {x : Event} {n : ℕ} (step : IsMade e x n s t v w) where
-  pub jobs_stay : on_job x ≡ false → (i : Job) (r : ℕ) → t.word (posted i r) ≡ s.word (posted i r)
+  jobs_stay : on_job x ≡ false → (i : Job) (r : ℕ) → t.word (posted i r) ≡ s.word (posted i r)
   jobs_stay off i r = step.others (posted i r) (λ same. let a : true ≡ false = ap is_job same ∙ off in cc)
 
   pub hints_stay : on_job x ≡ false → (r : ℕ) {a b : ℕ} → HasHints a b (s.word (posted job.Explore r)) (s.word (posted job.Compute r)) → HasHints a b (t.word (posted job.Explore r)) (t.word (posted job.Compute r))
   hints_stay off r {a} {b} has = subst (λ m. HasHints a b m (t.word (posted job.Compute r))) (sym (jobs_stay off job.Explore r)) (subst (λ m. HasHints a b (s.word (posted job.Explore r)) m) (sym (jobs_stay off job.Compute r)) has)
-
-  pub recovery_stays : on_recovery x ≡ false → (r : ℕ) → t.word (recovery r) ≡ s.word (recovery r)
-  recovery_stays off r = step.others (recovery r) (λ same. let a : true ≡ false = ap is_recovery same ∙ off in cc)
-
-  pub lives_stay : on_recovery x ≡ false → (r : ℕ) → lives_of t r ≡ lives_of s r
-  lives_stay off r = ap (λ m. Rattle.core_state.specs.Words.standing_life m + Rattle.core_state.specs.Words.replacing m) (recovery_stays off r)
 
 -- a key word that is not empty stays as it is
 key_left : (e : Setting) (x : Event) (n q : ℕ) → key q ≡ at x → n ≢ 0 → left e x n ≡ n
@@ -64,7 +51,7 @@ key_word (key r) is = refl
 key_word a is = absurd cc
 
 module _ {e : Setting} {s t : Core} {v w : View} (x : Event) (n : ℕ) (step : IsMade e x n s t v w) where
-  pub key_stays : (q : ℕ) → q < e.shape.rows → s.word (key q) ≢ 0 → t.word (key q) ≡ s.word (key q)
+  key_stays : (q : ℕ) → q < e.shape.rows → s.word (key q) ≢ 0 → t.word (key q) ≡ s.word (key q)
   key_stays q low some = by (is_key (at x)) refl
     where
       by : (b : Bool) → is_key (at x) ≡ b → t.word (key q) ≡ s.word (key q)

@@ -12,4 +12,4 @@ returns-in-Turns-clause-due g c =
     let within = rw c.in-Turns.is at c.requires.terms.pace in let run = c.run_virtual.ensures in
     rw c.in-Turns.is
     (turns_due c.turns_for-turns.result c.in-Turns.schedule.now (g.G.TaskGraph.graph c.args.graph.now) c.args.plan.now c.in-Turns.turns c.turns_for-turns.ensures.count (λ none. c.turns_for-turns.ensures.enough none within.0) c.args.terms.now.workers
-    (λ r. r.why) (λ r. r.records.items) c.run_virtual.result (λ one. run.paid (c.requires.kernels ∙ one)) (λ one. run.planned (c.requires.kernels ∙ one)) (λ one. run.calm (c.requires.kernels ∙ one)))
+    (λ r. r.why) (λ r. r.records.items) c.run_virtual.result run.paid run.planned run.empty (λ one. run.calm (c.requires.kernels ∙ one)))

@@ -2,7 +2,7 @@ use Rattle.std.proofs.Common.{length, subst}
 use Rattle.std.proofs.lemmas.Result.{IfErr-at_err}
 use Rattle.worker_pool.specs.Calling.{first_outcome}
 use Rattle.worker_pool.specs.Ends.{IsNotShort, RunTells}
-use Rattle.worker_pool.proofs.Paying.Ending.{planned_ends}
+use Rattle.worker_pool.proofs.Sharing.Ending.{planned_ends}
 use Rattle.worker_pool.proofs.Completing.{complete, answers_finished}
 use Rattle.worker_pool.proofs.Settings.{is_run, kernels_make, runs}
 use Rattle.worker_pool.proofs.run.run_virtual.Goals as goal
@@ -36,10 +36,13 @@ pub returns-in-Err-clause-calm : goal.returns-in-Err-clause-calm
 returns-in-Err-clause-calm g c = λ one empty enough. IfErr-at_err IsNotShort c.in-Err.is (c.run_all-value.ensures.calm one empty enough)
 
 pub returns-in-Err-clause-paid : goal.returns-in-Err-clause-paid
-returns-in-Err-clause-paid g c = λ one enough. IfErr-at_err IsNotShort c.in-Err.is (c.run_all-value.ensures.paid one enough)
+returns-in-Err-clause-paid g c = λ listed enough. IfErr-at_err IsNotShort c.in-Err.is (c.run_all-value.ensures.paid listed enough)
+
+pub returns-in-Err-clause-empty : goal.returns-in-Err-clause-empty
+returns-in-Err-clause-empty g c = λ listed empty enough. IfErr-at_err IsNotShort c.in-Err.is (c.run_all-value.ensures.empty listed empty enough)
 
 pub returns-in-Err-clause-planned : goal.returns-in-Err-clause-planned
-returns-in-Err-clause-planned g c = λ one words single enough.
+returns-in-Err-clause-planned g c = λ listed words single enough.
     let laws = (g.met.G.TaskGraph g.world.𝓛 g.world.𝓜 g.world.𝓡 ((λ s x. x), (λ x. x), (λ x. x), λ x. x)).lawful c.args.graph.now in let a = c.args in let outcome = first_outcome g.Ke.Kernel.outcome a.kernels.items in let records = c.run_all-value.result.1.items in
-    planned_ends (g.G.TaskGraph.graph a.graph.now) a.plan.now (length a.schedule.now) a.turns c.in-Err.why records (λ made. IfErr-at_err IsNotShort c.in-Err.is (c.run_all-value.ensures.paid one made))
+    planned_ends (g.G.TaskGraph.graph a.graph.now) a.plan.now (length a.schedule.now) a.turns c.in-Err.why records (λ made. IfErr-at_err IsNotShort c.in-Err.is (c.run_all-value.ensures.paid listed made))
     (complete _ outcome laws a.plan.now a.lives c.in-Err.why records (subst (λ r. RunTells (g.G.TaskGraph.graph a.graph.now) outcome a.plan.now a.lives r records) c.in-Err.is c.run_all-value.ensures.tells)).answers words single enough

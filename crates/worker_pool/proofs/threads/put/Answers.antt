@@ -1,5 +1,3 @@
-use Rattle.std.proofs.Common.{◌++◌, All, subst, sym}
-use Rattle.std.proofs.lemmas.List.{append-nil}
 use Rattle.core_state.specs.Sure.{IsSure}
 use Rattle.task_table.proofs.Sitting.{sure_seated}
 use Rattle.task_table.specs.Passes.{Passing}

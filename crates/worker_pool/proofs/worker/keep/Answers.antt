@@ -1,6 +1,6 @@
 use Rattle.std.proofs.Common.{◌≡◌, ◌∙◌, ◌+◌, ap, arith, length}
 use Rattle.worker_pool.proofs.Hinting.{kept_rows}
-use Rattle.worker_pool.proofs.Paying.Hints.{keeping_none, keeps_one, one_longer}
+use Rattle.worker_pool.proofs.Sharing.Hints.{keeping_none, keeps_one, one_longer}
 use Rattle.worker_pool.proofs.worker.keep.Goals as goal
 
 pub loop-row-init : goal.loop-row-init

@@ -1,6 +1,6 @@
 use Rattle.std.proofs.Common.{ℕ, ◌+◌, ◌<◌, ◌≤◌, All, length}
 use Rattle.std.specs.VecDeque.{deque_capacity, deque_len}
-use Rattle.worker_pool.proofs.Paying.Hints.{IsKeeping}
+use Rattle.worker_pool.proofs.Sharing.Hints.{IsKeeping}
 use Rattle.worker_pool.proofs.worker.keep.Given as goal
 
 -- all that is kept and all that is left to keep are rows, where they were at the beginning; no row is lost, and there is room for those that are left

@@ -1,4 +1,4 @@
-use Rattle.std.proofs.Common.{◌≡◌, ◌≢◌, ◌∙◌, ℕ, ◌+◌, ap, arith, subst, sym}
+use Rattle.std.proofs.Common.{◌≡◌, ◌≢◌, ◌∙◌, ℕ, ap, arith, subst, sym}
 use Rattle.core_state.specs.Counts.{known_key}
 use Rattle.core_state.specs.Events.Event.{take}
 use Rattle.core_state.specs.Graph.{Setting}
@@ -6,12 +6,14 @@ use Rattle.core_state.specs.Sure.{IsSure}
 use Rattle.core_state.specs.declared.views.View.{View}
 use Rattle.recovery.proofs.Knowing.{row_here}
 use Rattle.recovery.specs.Memory.{KnowsKey}
-use Rattle.worker_pool.proofs.Paying.Serving.{free_lines, job_came, next_doing, none_came}
-use Rattle.worker_pool.proofs.Paying.Tasks.{stepped_after}
+use Rattle.worker_pool.proofs.Sharing.Serving.{free_lines, job_came, next_doing, none_came}
+use Rattle.worker_pool.proofs.Sharing.Tasks.{stepped_after}
 use Rattle.worker_pool.proofs.Turns.{fresh_as, served_job, taken_as}
 use Rattle.run_bounds.specs.Doing.{Doing}
-use Rattle.run_bounds.specs.Struck.{Charged, IsMade}
-use Rattle.worker_pool.specs.Paying.{doing_of}
+use Rattle.run_bounds.specs.Doing.Doing.{asks}
+use Rattle.run_bounds.specs.Shared.{ActorTurn}
+use Rattle.run_bounds.specs.Struck.{IsMade}
+use Rattle.worker_pool.specs.Sharing.{doing_of}
 use Rattle.worker_pool.proofs.worker.serve.Goals as goal
 use Rattle.worker_pool.proofs.worker.serve.Goals.{in-Compute, in-Explore}
 
@@ -31,9 +33,9 @@ returns-then-life-gt0-clause-holds g c = λ tasks names. let r = c.reserve.ensur
 
 pub returns-then-life-gt0-clause-pays : goal.returns-then-life-gt0-clause-pays
 returns-then-life-gt0-clause-pays g c = λ tasks p lives most hints runs. record {
-  on = λ s t turns steps lone later ledger. let a = c.args in let e = g.T.Steps.setting a.steps.now in let v = g.T.Steps.view a.steps.now in let now = c.take-life.new.self in let w = g.T.Steps.view now in let did = c.take-life.ensures in let r = c.reserve.ensures in
+  on = λ s t steps part later topped. let a = c.args in let e = g.T.Steps.setting a.steps.now in let v = g.T.Steps.view a.steps.now in let now = c.take-life.new.self in let w = g.T.Steps.view now in let did = c.take-life.ensures in let r = c.reserve.ensures in
       let some : c.take-life.result ≢ 0 = omega (arith, c.if-life-gt0.true) in
-      job_came e p most s t v w lone later (free_lines v c.requires.idle) c.take-life.result turns a.row a.key.0 c.requires.known hints tasks lives runs a.job ledger
+      job_came e p most s t v w part later (free_lines v c.requires.idle) c.take-life.result a.row a.key.0 c.requires.known hints tasks lives runs a.job
       (subst (λ (n : ℕ). IsMade e (take a.row a.job (known_key a.row v)) n s t v w) (sym did.number)
       (stepped_after e a.steps.now c.reserve.new.self now s t (λ (u : View). take a.row a.job (known_key a.row u)) r.table.same_setting r.view r.made r.table.same_lender steps did.step))
       some c.task_of.result c.task_of.ensures;
@@ -41,11 +43,11 @@ returns-then-life-gt0-clause-pays g c = λ tasks p lives most hints runs. record
 
 pub returns-clause-pays : goal.returns-clause-pays
 returns-clause-pays g c = λ tasks p lives most hints runs. record {
-  on = λ s t turns steps lone later ledger. let a = c.args in let e = g.T.Steps.setting a.steps.now in let v = g.T.Steps.view a.steps.now in let now = c.take-life.new.self in let w = g.T.Steps.view now in let did = c.take-life.ensures in let r = c.reserve.ensures in
+  on = λ s t steps part later topped. let a = c.args in let e = g.T.Steps.setting a.steps.now in let v = g.T.Steps.view a.steps.now in let now = c.take-life.new.self in let w = g.T.Steps.view now in let did = c.take-life.ensures in let r = c.reserve.ensures in
       let none : c.take-life.result ≡ 0 = omega (arith, c.if-life-gt0.false) in
       let next : next_doing a.row a.key.0 a.job ≡ doing_of c.match-job.result = elim c.match-job.branch [ in-Explore b ↦ ap (next_doing a.row a.key.0) b.in-Explore.is ∙ sym (ap doing_of b.result-is) | in-Compute b ↦ ap (next_doing a.row a.key.0) b.in-Compute.is ∙ sym (ap doing_of b.result-is) ] in
-      subst (λ (x : Doing). Charged e p most t w x hints (turns + 1)) next
-      (none_came e p most s t v w lone later (free_lines v c.requires.idle) c.take-life.result turns a.row a.key.0 c.requires.known hints a.job ledger
+      subst (λ (x : Doing). ActorTurn e p most s t (record { view = v; doing = asks a.row a.key.0 a.job; hints = hints }) (record { view = w; doing = x; hints = hints })) next
+      (none_came e p most s t v w part later (free_lines v c.requires.idle) c.take-life.result a.row a.key.0 c.requires.known hints a.job
       (subst (λ (n : ℕ). IsMade e (take a.row a.job (known_key a.row v)) n s t v w) (sym did.number)
       (stepped_after e a.steps.now c.reserve.new.self now s t (λ (u : View). take a.row a.job (known_key a.row u)) r.table.same_setting r.view r.made r.table.same_lender steps did.step))
       none);

@@ -2,7 +2,7 @@ use Rattle.std.proofs.Common.{◌∙◌, List, Option, ap, rules, subst, sym}
 use Rattle.graph_model.specs.Notes.{Note}
 use Rattle.compute_notify.specs.Tasks.{NewCalls, task_items}
 use Rattle.compute_notify.specs.Eventing.{item_hints}
-use Rattle.worker_pool.proofs.Paying.Tasks.{task_turned}
+use Rattle.worker_pool.proofs.Sharing.Tasks.{task_turned}
 use Rattle.worker_pool.proofs.Hinting.{has_next}
 use Rattle.worker_pool.proofs.Turns.{keeps_turned}
 use Rattle.worker_pool.proofs.worker.turn_of.Goals as goal

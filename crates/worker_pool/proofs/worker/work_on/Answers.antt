@@ -5,9 +5,9 @@ use Rattle.core_state.specs.declared.views.View.{View}
 use Rattle.compute_notify.specs.Tasks.{IsNext, NewCalls, task_items}
 use Rattle.compute_notify.specs.declared.item.Item.{Item}
 use Rattle.run_bounds.specs.Struck.{Turned}
-use Rattle.worker_pool.specs.Paying.{StepsCore}
+use Rattle.worker_pool.specs.Sharing.{StepsCore}
 use Rattle.worker_pool.proofs.Calls.{called_on}
-use Rattle.worker_pool.proofs.Paying.Tasks.{items_as, reserved_turned, steps_from}
+use Rattle.worker_pool.proofs.Sharing.Tasks.{items_as, reserved_turned, steps_from}
 use Rattle.worker_pool.proofs.Hinting.{turn_few, turn_rows}
 use Rattle.worker_pool.proofs.worker.work_on.Goals as goal
 

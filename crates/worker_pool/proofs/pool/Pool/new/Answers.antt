@@ -2,9 +2,9 @@ use Rattle.std.proofs.Common.{◌≡◌, ◌∙◌, ◌%◌, List, [], ap, arith
 use Rattle.core_state.specs.Rooted.{root_key}
 use Rattle.core_state.specs.Views.{blank}
 use Rattle.core_state.specs.declared.views.View.{View}
-use Rattle.core_steps.specs.Table.{IsSound, first_views}
+use Rattle.core_steps.specs.Table.{IsSound}
 use Rattle.worker_pool.specs.Pooling.{AreNew}
-use Rattle.worker_pool.proofs.Paying.Tables.{begins_alone}
+use Rattle.worker_pool.proofs.Sharing.Beginning.{workers_begin}
 use Rattle.worker_pool.proofs.First.{cells_are, first_called, first_count, first_hold, root_at, shape_is, views_sure}
 use Rattle.worker_pool.proofs.pool.Pool.new.Goals as goal
 
@@ -23,9 +23,9 @@ returns-clause-holds g c = let tasks = g.G.TaskGraph.graph c.args.graph.now in l
     first_hold tasks e run [] c.args.workers vs views ws new (new.same_count ∙ sym count) (views_sure e c.in_ok-table.table sound 0 blank (omega (arith, count, c.requires.workers.0)))
 
 pub returns-clause-begins : goal.returns-clause-begins
-returns-clause-begins g c = λ strikes one run. let tasks = g.G.TaskGraph.graph c.args.graph.now in let e = g.C.Course.setting in let table = c.in_ok-table.table in let ws = c.in_ok-new_workers.field-0.items in
+returns-clause-begins g c = λ strikes run. let tasks = g.G.TaskGraph.graph c.args.graph.now in let e = g.C.Course.setting in let table = c.in_ok-table.table in let ws = c.in_ok-new_workers.field-0.items in
     let new : AreNew tasks (root_key % e.shape.rows) c.args.workers ws = subst (λ n. AreNew tasks n c.args.workers ws) (root_at tasks e c.in_ok-layout.layout c.requires.run c.in_ok-layout.ensures c.root_row-row.result c.root_row-row.ensures) c.in_ok-new_workers.ensures in
-    begins_alone tasks strikes e run table ws (c.in_ok-table.ensures.views_are ∙ ap (first_views e) one) (subst (λ n. AreNew tasks (root_key % e.shape.rows) n ws) one new) (subst (IsSound e) c.drop.view_is c.drop.invariant)
+    workers_begin tasks strikes e run table ws c.args.workers (let a = c.requires.workers.0 in omega (arith, a)) c.in_ok-table.ensures.views_are new (returns-clause-holds g c) (subst (IsSound e) c.drop.view_is c.drop.invariant)
 
 pub returns-clause-calls : goal.returns-clause-calls
 returns-clause-calls g c = λ before many. first_called (g.G.TaskGraph.graph c.args.graph.now) g.C.Course.setting c.requires.run [] c.args.workers c.in_ok-table.table.views c.in_ok-table.ensures.views_are before

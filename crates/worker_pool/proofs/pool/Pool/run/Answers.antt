@@ -1,9 +1,8 @@
 use Rattle.std.proofs.Common.{◌≡◌, ◌≢◌, ◌%◌, ◌∙◌, ℕ, arith, length, refl, slice_index, slice_index_or, subst}
-use Rattle.core_state.specs.Counts.{count}
+use Rattle.core_state.specs.Counts.{noted, total_of}
 use Rattle.core_state.specs.Tests.{is_any_replaced}
-use Rattle.core_steps.specs.Table.{view_at}
-use Rattle.worker_pool.specs.Paying.{IsPaid}
-use Rattle.worker_pool.proofs.Paying.Tables.{paid_for, some_turns}
+use Rattle.worker_pool.specs.Sharing.{IsPaid}
+use Rattle.worker_pool.proofs.Sharing.Tables.{long_enough, paid_for}
 use Rattle.worker_pool.proofs.Pooling.{scheduled}
 use Rattle.worker_pool.proofs.pool.Pool.run.Goals as goal
 
@@ -15,7 +14,7 @@ loop-i-init g c = let r = c.requires in record {
   same = record { same_count = refl; same_outcome = r.alike.same_outcome; same_fits = r.alike.same_fits };
   views = refl;
   called = λ before called. called;
-  paid = λ begins. record { sound = begins.sound; some = begins.some; turned = begins.none_made };
+  paid = λ begins listed. record { sound = begins.sound; some = begins.some; made = begins.none_made c.args.schedule.now listed };
 }
 
 pub turn-requires-clause-worker : goal.turn-requires-clause-worker
@@ -54,17 +53,16 @@ loop-i-preserved g c = let turn = c.turn.ensures in let before = c.loop-i.invari
   same = turn.kernels _ before.same;
   views = turn.count ∙ before.views;
   called = λ calls called. turn.calls calls (before.called calls called);
-  paid = λ begins. let p = c.loop-i.self.table in let ws = c.loop-i.self.workers.items in let midway = before.paid begins in
-      let one : length p.views ≡ 1 = before.views ∙ begins.one in
+  paid = λ begins listed. let midway = before.paid begins listed in
       let some : slice_index c.turn.new.self.table.words 0 ≢ 0 = (λ none. c.if-pending-eq0.false (c.pending.ensures.word ∙ none)) in record {
         sound = c.pending.ensures.sound;
         some = some;
-        turned = (c.in-Ok-None.ensures.pays c.in-Ok-None.field-0-is).pays begins.run one midway.sound c.pending.ensures.sound midway.some c.loop-i.i midway.turned;
+        made = (c.in-Ok-None.ensures.makes c.in-Ok-None.field-0-is).made begins.run midway.sound c.pending.ensures.sound some c.args.schedule.now listed c.loop-i.i refl midway.made;
       };
 }
 
 pub returns-clause-paid : goal.returns-clause-paid
-returns-clause-paid g c = λ begins over some. let p = c.loop-i.self.table in let loop = c.loop-i.invariant in let one : length p.views ≡ 1 = loop.views ∙ begins.one in
+returns-clause-paid g c = λ begins listed over some. let p = c.loop-i.self.table in let loop = c.loop-i.invariant in
     let tasks = g.G.TaskGraph.graph c.args.terms.now.graph.now in let strikes = c.args.terms.now.plan.now in let schedule = c.args.schedule.now in let made : c.loop-i.i ≡ c.args.turns = omega arith in
-    subst (λ (n : ℕ). IsPaid tasks strikes (length schedule) n (count is_any_replaced (view_at p 0).records)) made
-    (paid_for tasks strikes g.C.Course.setting p c.loop-i.self.workers.items (length schedule) c.loop-i.i begins.run one (loop.holds.same_count ∙ one) (some_turns schedule c.requires.schedule) (loop.paid begins))
+    subst (λ (n : ℕ). IsPaid tasks strikes (length p.views) (length schedule) n (total_of p.views (noted is_any_replaced))) made
+    (paid_for tasks strikes g.C.Course.setting schedule p c.loop-i.self.workers.items c.loop-i.i begins.run loop.holds.same_count (long_enough schedule 0 listed) (loop.paid begins listed))

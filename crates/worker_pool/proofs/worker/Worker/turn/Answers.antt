@@ -1,12 +1,13 @@
-use Rattle.std.proofs.Common.{◌+◌, ◌<◌, ℕ, All, List, ◌∙◌, ap, subst, sym}
+use Rattle.std.proofs.Common.{◌<◌, ℕ, All, List, ◌∙◌, ap, subst, sym}
 use Rattle.compute_notify.specs.Tasks.{TaskTells, ends_run}
 use Rattle.run_bounds.specs.Hinting.{HintsPut}
-use Rattle.run_bounds.specs.Struck.{Charged}
-use Rattle.run_bounds.proofs.Storm.Turning.{task_done}
-use Rattle.worker_pool.specs.Paying.{doing_of}
+use Rattle.run_bounds.specs.Doing.Doing.{idle, works}
+use Rattle.run_bounds.specs.Shared.{ActorTurn}
+use Rattle.run_bounds.proofs.Shared.Tasks.{done_turned, task_turned}
+use Rattle.worker_pool.specs.Sharing.{doing_of}
 use Rattle.worker_pool.specs.Working.{SpentShown, WorkHolds, WorkScratch}
 use Rattle.worker_pool.proofs.Calls.{called_still}
-use Rattle.worker_pool.proofs.Paying.Tasks.{goes_on_told, turned_on}
+use Rattle.worker_pool.proofs.Sharing.Tasks.{goes_on_told}
 use Rattle.worker_pool.specs.declared.worker.Work.{Work}
 use Rattle.worker_pool.proofs.Turns.{done_idle, done_scratch, left_items, spent_shown}
 use Rattle.worker_pool.proofs.worker.Worker.turn.Goals as goal
@@ -46,23 +47,26 @@ returns-in_default-clause-spent g c = let e = g.T.Steps.setting c.args.steps.now
 
 pub returns-in_ok-self-in-Serve-clause-pays : goal.returns-in_ok-self-in-Serve-clause-pays
 returns-in_ok-self-in-Serve-clause-pays g c = λ goes most few busy. record {
-  on = λ s t turns steps lone later ledger. let a = c.args in let e = g.T.Steps.setting a.steps.now in let v = g.T.Steps.view a.steps.now in let hints = a.self.now.hints.items in let p = a.terms.now.plan.now in
-      (c.in_ok-self-in-Serve.ensures.pays (g.G.TaskGraph.graph a.terms.now.graph.now) p a.terms.now.lives most hints c.requires.runs).on s t turns steps lone later (subst (λ (x : Work). Charged e p most s v (doing_of x) hints turns) c.in-Serve.is ledger);
+  on = λ s t steps part later topped. let a = c.args in let e = g.T.Steps.setting a.steps.now in let v = g.T.Steps.view a.steps.now in let w = g.T.Steps.view c.serve.new.steps in let hints = a.self.now.hints.items in let p = a.terms.now.plan.now in
+      subst (λ (x : Work). ActorTurn e p most s t (record { view = v; doing = doing_of x; hints = hints }) (record { view = w; doing = doing_of c.in_ok-self-in-Serve.field-0; hints = hints })) (sym c.in-Serve.is)
+      ((c.in_ok-self-in-Serve.ensures.pays (g.G.TaskGraph.graph a.terms.now.graph.now) p a.terms.now.lives most hints c.requires.runs).on s t steps part later topped);
 }
 
 pub returns-in-Done-clause-pays : goal.returns-in-Done-clause-pays
 returns-in-Done-clause-pays g c = λ goes most few busy. record {
-  on = λ s t turns steps lone later ledger. let a = c.args in let tasks = g.G.TaskGraph.graph a.terms.now.graph.now in let e = g.T.Steps.setting a.steps.now in let v = g.T.Steps.view a.steps.now in let w = g.T.Steps.view c.work_on.new.steps in let hints = a.self.now.hints.items in let p = a.terms.now.plan.now in
-      let told = c.in_ok-turn-in-Busy.turn in let work = c.in_ok-turn-in-Busy.ensures in let now = c.work_on.new.task in let left = c.keep.new.hints.items in
+  on = λ s t steps part later topped. let a = c.args in let tasks = g.G.TaskGraph.graph a.terms.now.graph.now in let e = g.T.Steps.setting a.steps.now in let v = g.T.Steps.view a.steps.now in let w = g.T.Steps.view c.work_on.new.steps in let hints = a.self.now.hints.items in let p = a.terms.now.plan.now in
+      let work = c.in_ok-turn-in-Busy.ensures in let now = c.work_on.new.task in let left = c.keep.new.hints.items in
       let holds = subst (WorkHolds tasks e v) c.in-Busy.is c.requires.holds.work in let tells = subst (TaskTells e w now) c.in-Done.is work.tells in
-      task_done e p most t w left (turns + 1) now (turned_on tasks e p a.terms.now.lives most c.requires.runs few s t v w lone later turns hints c.work_on.new.posted left c.in-Busy.task now told holds.0 (ap ends_run c.in-Done.is) (λ on. work.turned s t steps on)
-      (subst (λ (xs : List ℕ). HintsPut xs c.work_on.new.posted left) c.reserve.ensures.items c.keep.ensures.put) (subst (λ (x : Work). Charged e p most s v (doing_of x) hints turns) c.in-Busy.is ledger)) tells.0;
+      subst (λ (x : Work). ActorTurn e p most s t (record { view = v; doing = doing_of x; hints = hints }) (record { view = w; doing = idle; hints = left })) (sym c.in-Busy.is)
+      (done_turned p most few part later topped tasks a.terms.now.lives c.requires.runs c.in-Busy.task now holds.0 c.work_on.ensures.holds hints c.work_on.new.posted left (work.turned s t steps (ap ends_run c.in-Done.is))
+      (subst (λ (xs : List ℕ). HintsPut xs c.work_on.new.posted left) c.reserve.ensures.items c.keep.ensures.put) tells.0);
 }
 
 pub returns-in_default-clause-pays : goal.returns-in_default-clause-pays
 returns-in_default-clause-pays g c = λ goes most few busy. record {
-  on = λ s t turns steps lone later ledger. let a = c.args in let tasks = g.G.TaskGraph.graph a.terms.now.graph.now in let e = g.T.Steps.setting a.steps.now in let v = g.T.Steps.view a.steps.now in let w = g.T.Steps.view c.work_on.new.steps in let hints = a.self.now.hints.items in let p = a.terms.now.plan.now in
-      let work = c.in_ok-turn-in-Busy.ensures in let left = c.keep.new.hints.items in let holds = subst (WorkHolds tasks e v) c.in-Busy.is c.requires.holds.work in
-      turned_on tasks e p a.terms.now.lives most c.requires.runs few s t v w lone later turns hints c.work_on.new.posted left c.in-Busy.task c.work_on.new.task c.in_ok-turn-in-Busy.turn holds.0 (goes_on_told c.in_ok-turn-in-Busy.turn (sym c.spent_of.ensures ∙ goes)) (λ on. work.turned s t steps on)
-      (subst (λ (xs : List ℕ). HintsPut xs c.work_on.new.posted left) c.reserve.ensures.items c.keep.ensures.put) (subst (λ (x : Work). Charged e p most s v (doing_of x) hints turns) c.in-Busy.is ledger);
+  on = λ s t steps part later topped. let a = c.args in let tasks = g.G.TaskGraph.graph a.terms.now.graph.now in let e = g.T.Steps.setting a.steps.now in let v = g.T.Steps.view a.steps.now in let w = g.T.Steps.view c.work_on.new.steps in let hints = a.self.now.hints.items in let p = a.terms.now.plan.now in
+      let work = c.in_ok-turn-in-Busy.ensures in let now = c.work_on.new.task in let left = c.keep.new.hints.items in let holds = subst (WorkHolds tasks e v) c.in-Busy.is c.requires.holds.work in
+      subst (λ (x : Work). ActorTurn e p most s t (record { view = v; doing = doing_of x; hints = hints }) (record { view = w; doing = works now; hints = left })) (sym c.in-Busy.is)
+      (task_turned p most few part later topped tasks a.terms.now.lives c.requires.runs c.in-Busy.task now holds.0 c.work_on.ensures.holds hints c.work_on.new.posted left (work.turned s t steps (goes_on_told c.in_ok-turn-in-Busy.turn (sym c.spent_of.ensures ∙ goes)))
+      (subst (λ (xs : List ℕ). HintsPut xs c.work_on.new.posted left) c.reserve.ensures.items c.keep.ensures.put));
 }

@@ -42,13 +42,23 @@ keeping_all before given now left none keeping = record {
 pub last_taken : (before now : List ℕ) (row : ℕ) → before ≡ now ++ row ∷ [] → HintTaken before row now
 last_taken before now row split = record { one_less = ap length split ∙ one_longer row now; the_row = λ q. ap (times q) split ∙ one_more q row now }
 
+-- the first of some hints
+pub first_taken : (before now : List ℕ) (row : ℕ) → before ≡ row ∷ now → HintTaken before row now
+first_taken before now row split = record { one_less = ap length split ∙ omega arith; the_row = λ q. let a = ap (times q) split in let b = bump_is (eqb q row) (times q now) in omega (arith, a, b) }
+
 no_hints : (hints : List ℕ) → length hints ≡ 0 → hints ≡ []
 no_hints [] none = refl
 no_hints (x ∷ xs) none = absurd (omega (arith, none))
 
-pub newest_taken : (before now : List ℕ) (result : Option ℕ) (n m : ℕ) → n ≡ length before → before ≡ now ++ option_to_list result → MatchOption result ((n ≡ 0) × (m ≡ 0)) (λ row. m + 1 ≡ n) → MatchOption result (before ≡ []) (λ row. HintTaken before row now)
-newest_taken before now None n m many split cases = no_hints before (let a = cases.0 in omega (arith, a, many))
-newest_taken before now (Some row) n m many split cases = last_taken before now row split
+-- the one that a list gives, or none where the list is empty
+module _ (before now : List ℕ) (n m : ℕ) (many : n ≡ length before) (left : m ≡ length now) where
+  pub newest_taken : (result : Option ℕ) → before ≡ now ++ option_to_list result → MatchOption result ((n ≡ 0) × (m ≡ 0)) (λ row. m + 1 ≡ n) → MatchOption result ((before ≡ []) × (now ≡ [])) (λ row. HintTaken before row now)
+  newest_taken None split cases = (no_hints before (let a = cases.0 in omega (arith, a, many)), no_hints now (let a = cases.1 in omega (arith, a, left)))
+  newest_taken (Some row) split cases = last_taken before now row split
+
+  pub oldest_taken : (result : Option ℕ) → before ≡ option_to_list result ++ now → MatchOption result ((n ≡ 0) × (m ≡ 0)) (λ row. m + 1 ≡ n) → MatchOption result ((before ≡ []) × (now ≡ [])) (λ row. HintTaken before row now)
+  oldest_taken None split cases = (no_hints before (let a = cases.0 in omega (arith, a, many)), no_hints now (let a = cases.1 in omega (arith, a, left)))
+  oldest_taken (Some row) split cases = first_taken before now row split
 
 -- a turn brings one hint at most
 owed_few : (b : Bool) (row : ℕ) → length (cond b ([] ++ row ∷ []) []) ≤ 1

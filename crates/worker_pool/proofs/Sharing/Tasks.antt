@@ -1,6 +1,5 @@
 -- A turn of a task with a seat, as the charges see it.
-use Rattle.std.proofs.Common.{◌≡◌, ℕ, ◌+◌, ◌≤◌, List, [], Option, None, Some, false, refl, ap, ◌∙◌, subst}
-use Rattle.graph_model.specs.Graph.{Graph as TaskGraph}
+use Rattle.std.proofs.Common.{◌≡◌, ℕ, List, [], Option, None, Some, false, refl, ap, ◌∙◌, subst}
 use Rattle.graph_model.specs.declared.plan.Strike.{Strike}
 use Rattle.core_state.specs.Change.{Core}
 use Rattle.core_state.specs.Events.{Event, after}
@@ -11,17 +10,13 @@ use Rattle.core_steps.specs.Seat.{IsStep}
 use Rattle.recovery.specs.declared.turn.Turn.{Turn}
 use Rattle.recovery.specs.declared.turn.Turn.TheVariants as turn
 use Rattle.compute_notify.specs.Eventing.{item_event, item_hints, item_prepared}
-use Rattle.compute_notify.specs.Resting.{FallsGood, LeavesAbove, LetsFall, suspect_rest}
-use Rattle.compute_notify.specs.Running.{Runs}
+use Rattle.compute_notify.specs.Resting.{FallsGood, LeavesAbove, LetsFall}
 use Rattle.compute_notify.specs.Stepping.{HasStepped}
-use Rattle.compute_notify.specs.Tasks.{Holds, IsNext, SameTask, begun_items, ends_run, items_rest, task_items, task_rest}
+use Rattle.compute_notify.specs.Tasks.{IsNext, SameTask, begun_items, ends_run, items_rest, task_items, task_rest}
 use Rattle.compute_notify.specs.declared.item.Item.{Item}
 use Rattle.compute_notify.specs.declared.task.Task.{Task}
-use Rattle.run_bounds.specs.Hinting.{HintsPut}
-use Rattle.run_bounds.specs.Doing.Doing.{works}
-use Rattle.run_bounds.specs.Struck.{Charged, IsLone, IsMade, Turned}
-use Rattle.run_bounds.proofs.Storm.Turning.{turns_task}
-use Rattle.worker_pool.specs.Paying.{StepsCore}
+use Rattle.run_bounds.specs.Struck.{IsMade, Turned}
+use Rattle.worker_pool.specs.Sharing.{StepsCore}
 use Rattle.worker_pool.specs.Working.{spent_of}
 
 -- what holds of a seat that is as new as another
@@ -78,11 +73,6 @@ reserved_turned e p s t v w before ready now rows same turned = record {
 
     rests : task_rest e p ready ≡ task_rest e p before
     rests = ap (λ (h : Option BlockCells). items_rest e p h (task_items ready)) same.same_hand ∙ ap (items_rest e p before.hand) items
-
--- the charges after the turn: no life was spent, so a step was made
-pub turned_on : (g : TaskGraph) (e : Setting) (p : List Strike) (lives most : ℕ) → Runs g p lives e → ((k : ℕ) → suspect_rest e k + 1 ≤ most) → (s t : Core) (v w : View) → IsLone e s v → IsLone e t w → (turns : ℕ) (hints rows left : List ℕ) (task now : Task) (told : Turn) → Holds g e v task → ends_run told ≡ false
-    → (ends_run told ≡ false → Turned e p s t v w task now rows) → HintsPut hints rows left → Charged e p most s v (works task) hints turns → Charged e p most t w (works now) left (turns + 1)
-turned_on g e p lives most runs few s t v w lone later turns hints rows left task now told holds goes turned put ledger = turns_task p most few lone later turns hints rows left task now ledger g lives runs holds (turned goes) put
 
 -- where no life is spent the run goes on
 pub goes_on_told : (x : Turn) → spent_of x ≡ None → ends_run x ≡ false

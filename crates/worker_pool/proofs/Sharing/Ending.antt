@@ -1,23 +1,23 @@
--- A run of one worker that left something pending made fewer turns than are enough.
-use Rattle.std.proofs.Common.{◌≡◌, ◌≢◌, ◌∙◌, ℕ, ◌+◌, ◌-◌, ◌*◌, ◌≤◌, List, [], ◌++◌, Option, length, slice_index, ap, subst, sym, arith}
+-- A run that left something pending made fewer turns than are enough.
+use Rattle.std.proofs.Common.{◌≡◌, ◌≢◌, ◌∙◌, ℕ, ◌+◌, ◌-◌, ◌*◌, ◌<◌, ◌≤◌, All, List, [], ◌∷◌, ◌++◌, Option, length, slice_index, ap, subst, sym, refl, arith}
 use Rattle.std.proofs.Math.Bridge.{le_prop}
 use Rattle.std.proofs.Math.Logic.{∥∥₁_elim}
 use Rattle.graph_model.specs.Graph.{Graph as TaskGraph}
 use Rattle.graph_model.specs.declared.plan.Strike.{Strike}
 use Rattle.graph_model.specs.declared.record.Record.{Record}
-use Rattle.core_state.specs.Counts.{count, noted}
+use Rattle.core_state.specs.Counts.{count, noted, total_of}
 use Rattle.core_state.specs.Graph.{Setting}
 use Rattle.core_state.specs.Tests.{is_any_replaced}
 use Rattle.core_state.specs.declared.block.BlockCells.{BlockCells}
-use Rattle.core_steps.specs.Table.{Plain, view_at}
+use Rattle.core_steps.specs.Table.{Plain}
 use Rattle.run_bounds.specs.Budgets.{all_places, enough_turns}
+use Rattle.run_bounds.specs.Moving.{IsListed}
 use Rattle.run_bounds.specs.Storm.{enough_turns_of}
-use Rattle.run_bounds.proofs.Tables.{alone}
-use Rattle.worker_pool.specs.Paying.{IsPaid}
 use Rattle.worker_pool.specs.Closing.{LeavesPending}
 use Rattle.worker_pool.specs.Completing.{AnswersPlan, HasOneVersion, StrikesNoBlock}
 use Rattle.worker_pool.specs.Ends.{IsNotShort, NoneMissing}
 use Rattle.worker_pool.specs.Joining.{HaveEnded}
+use Rattle.worker_pool.specs.Sharing.{IsPaid}
 use Rattle.worker_pool.specs.declared.end.Why.{Why}
 use Rattle.worker_pool.specs.declared.end.Why.TheVariants as why
 use Rattle.worker_pool.specs.declared.pool.Stop.{Stop}
@@ -26,17 +26,25 @@ use Rattle.worker_pool.proofs.Ends.{enough_made}
 use Rattle.worker_pool.proofs.Sums.{replaced_recorded}
 
 module _ (g : TaskGraph) (strikes : List Strike) (e : Setting) (x : Stop) (q : Plain) (ws : List ℕ) (bs : List (Option BlockCells)) (tasks root records : List Record) (pending schedule turns : ℕ) (told : Why)
-    (ended : HaveEnded e q.views ws bs tasks root) (one : length q.views ≡ 1) (word : slice_index q.words 0 ≡ pending) (due : x ≡ stop.Over → slice_index q.words 0 ≢ 0 → IsPaid g strikes schedule turns (count is_any_replaced (view_at q 0).records))
+    (ended : HaveEnded e q.views ws bs tasks root) (word : slice_index q.words 0 ≡ pending) (due : x ≡ stop.Over → slice_index q.words 0 ≢ 0 → IsPaid g strikes (length q.views) schedule turns (total_of q.views (noted is_any_replaced)))
     (left : LeavesPending x pending tasks root told records) where
-  paid : x ≡ stop.Over → pending ≢ 0 → records ≡ tasks ++ root → IsPaid g strikes schedule turns (count is_any_replaced records)
-  paid over some are = subst (IsPaid g strikes schedule turns) (sym (ap (count is_any_replaced) are ∙ replaced_recorded e q.views ws bs tasks root ended ∙ alone q.views (noted is_any_replaced) one))
-      (due over (λ none. some (sym word ∙ none)))
+  paid : x ≡ stop.Over → pending ≢ 0 → records ≡ tasks ++ root → IsPaid g strikes (length q.views) schedule turns (count is_any_replaced records)
+  paid over some are = subst (IsPaid g strikes (length q.views) schedule turns) (sym (ap (count is_any_replaced) are ∙ replaced_recorded e q.views ws bs tasks root ended)) (due over (λ none. some (sym word ∙ none)))
 
   pub paid_ends : enough_turns_of g schedule (length strikes) (count is_any_replaced records) ≤ turns → IsNotShort told
   paid_ends = enough_made x pending tasks root (enough_turns_of g schedule (length strikes) (count is_any_replaced records)) turns told records (λ over some are. (paid over some are).few) left
 
-  pub calm_ends : strikes ≡ [] → enough_turns g ≤ turns → IsNotShort told
-  calm_ends empty = enough_made x pending tasks root (enough_turns g) turns told records (λ over some are. (paid over some are).calm empty) left
+  pub empty_ends : strikes ≡ [] → enough_turns_of g schedule 0 0 ≤ turns → IsNotShort told
+  empty_ends none = enough_made x pending tasks root (enough_turns_of g schedule 0 0) turns told records
+      (λ over some are. let due_now = paid over some are in subst (λ (n : ℕ). turns < enough_turns_of g schedule 0 n) (due_now.empty none) (subst (λ (n : ℕ). turns < enough_turns_of g schedule n (count is_any_replaced records)) (ap length none) due_now.few)) left
+
+  pub calm_ends : length q.views ≡ 1 → strikes ≡ [] → enough_turns g ≤ turns → IsNotShort told
+  calm_ends one empty = enough_made x pending tasks root (enough_turns g) turns told records (λ over some are. (paid over some are).calm one empty) left
+
+-- an only worker is named
+pub only_listed : (schedule : List ℕ) (many : ℕ) → schedule ≢ [] → All (λ i. i < many) schedule → many ≡ 1 → IsListed schedule 0
+only_listed [] many some all one = absurd (some refl)
+only_listed (i ∷ schedule) many some all one = (0, omega arith, let low = all 0 0 (omega arith) in omega (arith, low, one))
 
 -- more replaced lives want no fewer turns
 more_turns : (m n r d t q : ℕ) → 200 * m * (n + r + 1) * t * q * q ≤ 200 * m * (n + (r + d) + 1) * t * q * q
